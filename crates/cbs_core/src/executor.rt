@@ -82,13 +82,20 @@ impl<W: Work, A: Allocator + Clone> Core<W, A> {
     pub fn new(alloc: A, plan: Plan, modes: Modes, backlog: u64) -> Result<Self, CoreError>
         requires { length modes ≡ length plan.rates }
         ensures start { IfOk result (λ core. Agrees W.meaning core
-            (record { setup = record { servers = terms_of modes plan.rates; backlog = backlog };
-            steps = [] })) }
+            (record {
+              setup = record { servers = terms_of modes plan.rates; backlog = backlog };
+              steps = [];
+            })) }
         ensures on_time { IfOk result (λ core. IsCoreOnTime core) }
         ensures paced { IfOk result (λ core. IsCorePaced core) }
         ensures punctual { OnOk result ((steps : List (Step W))
-            → IsPunctual W.meaning (record { setup = record { servers = terms_of modes plan.rates;
-            backlog = backlog }; steps = steps })) }
+            → IsPunctual W.meaning (record {
+              setup = record {
+                servers = terms_of modes plan.rates;
+                backlog = backlog;
+              };
+              steps = steps;
+            })) }
         ensures refusal { RefusesByOrMemory CoreError.OutOfMemory result (new_refusal backlog) }
     {
         Core::of(alloc, &plan, &modes, backlog)
@@ -99,13 +106,21 @@ impl<W: Work, A: Allocator + Clone> Core<W, A> {
     pub fn of(alloc: A, plan: &Plan, modes: &Modes, backlog: u64) -> Result<Self, CoreError>
         requires { length modes.now ≡ length plan.now.rates }
         ensures start { IfOk result (λ core. Agrees W.meaning core
-            (record { setup = record { servers = terms_of modes.now plan.now.rates;
-            backlog = backlog }; steps = [] })) }
+            (record {
+              setup = record {
+                servers = terms_of modes.now plan.now.rates;
+                backlog = backlog;
+              };
+              steps = [];
+            })) }
         ensures on_time { IfOk result (λ core. IsCoreOnTime core) }
         ensures paced { IfOk result (λ core. IsCorePaced core) }
         ensures punctual { OnOk result ((steps : List (Step W))
-            → IsPunctual W.meaning (record { setup = record
-            { servers = terms_of modes.now plan.now.rates; backlog = backlog }; steps = steps })) }
+            → IsPunctual W.meaning (record {
+              setup = record
+                  { servers = terms_of modes.now plan.now.rates; backlog = backlog };
+              steps = steps;
+            })) }
         ensures refusal { RefusesByOrMemory CoreError.OutOfMemory result (new_refusal backlog) }
     {
         if backlog == 0 || backlog > MAX_BACKLOG {

@@ -54,8 +54,10 @@ impl LastUnit {
         requires clock { now + ticks < 2 ^ 63 }
         requires few { self.old.charged < 2 ^ 63 }
         ensures charged { result ≡ charged_at now self.old + ticks }
-        ensures kept { self.new ≡ record self.old { charged = charged_at now self.old + ticks;
-            charged_to = now + ticks } }
+        ensures kept { self.new ≡ record self.old {
+          charged = charged_at now self.old + ticks;
+          charged_to = now + ticks;
+        } }
     {
         let before = if self.charged_to == now {
             self.charged

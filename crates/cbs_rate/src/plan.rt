@@ -108,8 +108,10 @@ impl Plan {
     pub fn admit(&mut self, reservation: Reservation) -> Result<u16, AdmitError>
         ensures answer { AnswersBy result (admit_refusal self.old reservation)
             (length self.old.rates) }
-        ensures ok { OnOk result (self.new ≡ record self.old { rates = self.old.rates
-            ++ reservation ∷ [] }) }
+        ensures ok { OnOk result (self.new ≡ record self.old {
+          rates = self.old.rates
+              ++ reservation ∷ [];
+        }) }
         ensures err { OnErr result (self.new ≡ self.old) }
         ensures lawful { IsPlan self.new }
 

@@ -39,8 +39,10 @@ impl Reservation {
     /// Refuses, in this order: [`RateError::ZeroBudget`] if the budget is 0; [`RateError::PeriodTooLong`] if the period
     /// is over [`MAX_PERIOD`]; [`RateError::BudgetOverPeriod`] if the budget is over the period.
     pub fn new(budget: u64, period: u64) -> Result<Reservation, RateError>
-        ensures { AnswersBy result (rate_refusal budget period) (record { budget = budget;
-            period = period }) }
+        ensures { AnswersBy result (rate_refusal budget period) (record {
+          budget = budget;
+          period = period;
+        }) }
     {
         if budget == 0 {
             return Err(RateError::ZeroBudget);

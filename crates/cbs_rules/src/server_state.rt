@@ -61,8 +61,10 @@ impl ServerState {
     pub fn arrive_idle(&mut self, mode: Mode, now: u64)
         requires free { self.old.state.throttled ≡ false }
         requires clock { now ≤ clock_end }
-        ensures { self.new ≡ record { reservation = self.old.reservation;
-            state = after_arrival mode self.old.reservation now self.old.state } }
+        ensures { self.new ≡ record {
+          reservation = self.old.reservation;
+          state = after_arrival mode self.old.reservation now self.old.state;
+        } }
     {
         if self.is_renewed(mode, now) {
             self.budget = self.reservation.budget();
@@ -97,8 +99,10 @@ impl ServerState {
         requires free { self.old.state.throttled ≡ false }
         requires room { mode ≡ Mode.Soft → self.old.state.budget ≡ 1
             → self.old.state.deadline ≤ latest_deadline }
-        ensures { self.new ≡ record { reservation = self.old.reservation;
-            state = after_unit mode self.old.reservation self.old.state } }
+        ensures { self.new ≡ record {
+          reservation = self.old.reservation;
+          state = after_unit mode self.old.reservation self.old.state;
+        } }
     {
         self.budget -= 1;
         if self.budget > 0 {
@@ -126,8 +130,10 @@ impl ServerState {
         requires begun { 0 < self.old.state.deadline }
         requires room { self.old.state.deadline + ticks * self.old.reservation.period ≤
             latest_deadline + 1000000000 }
-        ensures rule { self.new ≡ record { reservation = self.old.reservation;
-            state = after_charge mode self.old.reservation ticks self.old.state } }
+        ensures rule { self.new ≡ record {
+          reservation = self.old.reservation;
+          state = after_charge mode self.old.reservation ticks self.old.state;
+        } }
         ensures ticks { self.new.state ≡ after_charges mode self.old.reservation ticks
             self.old.state }
         ensures paid { IsPaid self.old.reservation ticks self.old.state self.new.state }
@@ -147,8 +153,10 @@ impl ServerState {
             latest_deadline + 1000000000 }
         ensures lawful { IsState self.old.reservation self.old.state }
         ensures rate { IsRate self.old.reservation.budget self.old.reservation.period }
-        ensures rule { self.new ≡ record { reservation = self.old.reservation;
-            state = after_charge mode self.old.reservation ticks self.old.state } }
+        ensures rule { self.new ≡ record {
+          reservation = self.old.reservation;
+          state = after_charge mode self.old.reservation ticks self.old.state;
+        } }
     {
         if ticks < self.budget {
             self.budget -= ticks;
@@ -181,8 +189,10 @@ impl ServerState {
     pub fn replenish(&mut self, now: u64)
         requires { self.old.state.throttled ≡ true → self.old.state.deadline ≤ now
             → self.old.state.deadline ≤ latest_deadline }
-        ensures rule { self.new ≡ record { reservation = self.old.reservation;
-            state = after_replenishment self.old.reservation now self.old.state } }
+        ensures rule { self.new ≡ record {
+          reservation = self.old.reservation;
+          state = after_replenishment self.old.reservation now self.old.state;
+        } }
         ensures ticks { (start n : ℕ) → 0 < n → now ≡ start + n
             → self.new.state ≡ after_ticks self.old.reservation start n self.old.state }
     {
@@ -193,8 +203,10 @@ impl ServerState {
     fn refill(&mut self, now: u64)
         requires { self.old.state.throttled ≡ true → self.old.state.deadline ≤ now
             → self.old.state.deadline ≤ latest_deadline }
-        ensures { self.new ≡ record { reservation = self.old.reservation;
-            state = after_replenishment self.old.reservation now self.old.state } }
+        ensures { self.new ≡ record {
+          reservation = self.old.reservation;
+          state = after_replenishment self.old.reservation now self.old.state;
+        } }
     {
         if self.throttled && self.deadline <= u128::from(now) {
             self.budget += self.reservation.budget() - self.overrun;

@@ -18,8 +18,10 @@ use cbs_rules::Modes;
 pub fn all_punctual<W: Work>(plan: &Plan, modes: &Modes, backlog: u64)
     requires { length modes.now ≡ length plan.now.rates }
     ensures { (steps : List (Step W)) → IsPunctual W.meaning
-        (record { setup = record { servers = terms_of modes.now plan.now.rates; backlog = backlog };
-        steps = steps }) }
+        (record {
+          setup = record { servers = terms_of modes.now plan.now.rates; backlog = backlog };
+          steps = steps;
+        }) }
 {
     // Reading the plan gives the proof what every plan keeps.
     let _ = plan.len();

@@ -8,14 +8,14 @@ ghost use Rattle.std.specs.Prelude.{◌-◌, ◌<◌, ◌^◌};
 
 use crate::bytes::{bytes_of, write_reason};
 use crate::progress::Teller;
-use cbsrun_tasks::MEMORY;
-use cbsrun_paint::Painted;
 use cbsrun_commands::{
     Action, Asked, BAD_FILE, ByteOutput, DONE, Form, MEMORY_VARIABLE, Progress, RUN_FAULT,
     RunError, ToWrite, WRONG_WORDS, WordsFault, check_bytes_within, draw_load_within,
     draw_tasks_within, memory_bound, read_words, report_bytes_within, run_bytes_within,
     simulate_bytes_within, simulate_lines_within, write_pieces, write_read_fault, write_run_fault,
 };
+use cbsrun_paint::Painted;
+use cbsrun_tasks::MEMORY;
 use std::alloc::{AllocError, Global};
 use std::env;
 use std::env::VarError;

@@ -5,8 +5,8 @@ ghost use Rattle.cbsrun_chart.specs.Courses.{budget_at, course_after, course_unt
 
 use crate::waits::Last;
 use cbs_rate::Reservation;
-use cbsrun_window::Window;
 use cbsrun_events::{Event, Seen};
+use cbsrun_window::Window;
 use std::alloc::{AllocError, Global};
 use std::marker::Model;
 

@@ -5,8 +5,8 @@ ghost use Rattle.cbsrun_chart.specs.Deadlines.{deadline_at, deadlines_after, dea
 
 use crate::waits::Last;
 use cbs_rate::Reservation;
-use cbsrun_window::Window;
 use cbsrun_events::Seen;
+use cbsrun_window::Window;
 use std::alloc::AllocError;
 
 impl Last {

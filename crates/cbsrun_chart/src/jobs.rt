@@ -7,8 +7,8 @@ ghost use Rattle.cbsrun_chart.specs.Jobs.{all_jobs, completions, finished_at, is
 ghost use Rattle.cbsrun_chart.specs.Jobs.{jobs_after, jobs_after_run, jobs_settled, late_stretch, no_jobs};
 
 use cbs_steps::Ran;
-use cbsrun_window::{Kind, Stretch, Window};
 use cbsrun_events::{Arrival, Event};
+use cbsrun_window::{Kind, Stretch, Window};
 use std::alloc::{AllocError, Global};
 use std::collections::VecDeque;
 use std::marker::Model;
@@ -166,8 +166,10 @@ impl Jobs {
 
     /// Puts the end of the newest finished job off to the tick `clock`, if there is such a job.
     fn put_off(&mut self, clock: u64)
-        ensures { self.new ≡ record self.old { newest = option_map (finished_at clock)
-            self.old.newest } }
+        ensures { self.new ≡ record self.old {
+          newest = option_map (finished_at clock)
+              self.old.newest;
+        } }
     {
         self.newest = self.newest.map(|job| job.finished_at(clock));
     }

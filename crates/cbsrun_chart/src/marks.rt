@@ -3,8 +3,8 @@
 ghost use Rattle.std.specs.Prelude.{◌≡◌, OnOk};
 ghost use Rattle.cbsrun_chart.specs.Marks.{arrivals_after, refusals_after};
 
-use cbsrun_window::Window;
 use cbsrun_events::Event;
+use cbsrun_window::Window;
 use std::alloc::AllocError;
 
 /// Returns how many releases were refused in the window, after one more step: at most 2^64 - 1.

@@ -11,8 +11,8 @@ use crate::marks::{add_arrival, refusals_after};
 use crate::steps::stretch_of;
 use crate::waits::Last;
 use cbs_rate::Reservation;
-use cbsrun_window::{Kind, Stretch, Stretches, Window};
 use cbsrun_events::{Event, Seen};
+use cbsrun_window::{Kind, Stretch, Stretches, Window};
 use std::alloc::{AllocError, Global};
 use std::marker::Model;
 

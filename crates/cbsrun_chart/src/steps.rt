@@ -4,8 +4,8 @@ ghost use Rattle.std.specs.Prelude.{◌≡◌};
 ghost use Rattle.cbsrun_chart.specs.Rows.{kind_of, kind_of_run, step_stretch};
 
 use cbs_steps::Ran;
-use cbsrun_window::{Kind, Stretch};
 use cbsrun_events::{Event, Seen};
+use cbsrun_window::{Kind, Stretch};
 
 /// Returns what goes on in the ticks of a run.
 fn kind_of_run(ran: Ran) -> Kind

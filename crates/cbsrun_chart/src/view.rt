@@ -9,8 +9,8 @@ use crate::chart::Chart;
 use crate::row::Row;
 use crate::steps::stretch_of;
 use cbs_rate::Plan;
-use cbsrun_window::{Stretch, Stretches, Window};
 use cbsrun_events::{Seen, View};
+use cbsrun_window::{Stretch, Stretches, Window};
 use std::alloc::{AllocError, Global};
 use std::marker::Model;
 

@@ -5,8 +5,8 @@ ghost use Rattle.cbsrun_sizing.specs.ServerLoads.{AreServerLoads};
 ghost use Rattle.cbsrun_check_text.specs.Notes.{IsSummed, cover_text, too_much_text, note_text, notes_text, set_off};
 
 use crate::fractions::append_fraction;
-use cbsrun_loads::Load;
 use cbs_rate::Reservation;
+use cbsrun_loads::Load;
 use cbsrun_sizing::{Asked, ServerLoad};
 use cbsrun_text::append_pair;
 use std::alloc::{AllocError, Global};

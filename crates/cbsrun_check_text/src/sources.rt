@@ -8,8 +8,8 @@ ghost use Rattle.cbsrun_check_text.specs.Sources.{range_text, in_time_text, is_a
 
 use crate::cells::{Shown, cells};
 use crate::fractions::Share;
-use cbsrun_loads::Load;
 use cbs_rate::Reservation;
+use cbsrun_loads::Load;
 use cbsrun_simulate::{Range, SourceTerms};
 use cbsrun_sizing::{ServerLoad, is_within};
 use cbsrun_text::{Cell, append_columns, words};

@@ -10,10 +10,10 @@ ghost use Rattle.cbsrun_lines.specs.Writers.{IsUntouched, MayWrite};
 
 use crate::ending::{Stopped, print, status_of};
 use crate::reading::{load_file, task_file};
-use cbsrun_io::ByteOutput;
 use cbsrun_check_text::{check_load, check_plan};
-use cbsrun_tasks::{FileFault, TaskFile, is_load_within};
+use cbsrun_io::ByteOutput;
 use cbsrun_loads::Load;
+use cbsrun_tasks::{FileFault, TaskFile, is_load_within};
 use std::alloc::{AllocError, Global};
 
 /// A file of either kind.

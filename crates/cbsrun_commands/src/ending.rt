@@ -10,11 +10,11 @@ ghost use Rattle.cbsrun_lines.specs.Writers.{MayWrite, TriesToWrite};
 ghost use Rattle.cbsrun_lines.specs.declared.run_error.RunError.TheVariants.{OutOfMemory};
 
 use crate::fault_lines::{write_file_fault, write_nothing_shown, write_run_fault};
-use cbsrun_io::{ByteOutput, write_pieces, write_text};
 use cbsrun_fault_texts::explain;
-use cbsrun_tasks::{FileFault, FileKind, wants_within};
+use cbsrun_io::{ByteOutput, write_pieces, write_text};
 use cbsrun_lines::RunError;
 use cbsrun_runs::NothingShown;
+use cbsrun_tasks::{FileFault, FileKind, wants_within};
 use std::alloc::{AllocError, Global};
 
 /// The status of a run that is complete, and of a request for help.

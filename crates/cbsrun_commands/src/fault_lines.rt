@@ -5,9 +5,9 @@ ghost use Rattle.cbsrun_commands.specs.FaultLines.{read_line, file_line, run_lin
 ghost use Rattle.cbsrun_lines.specs.Writers.{MayWrite, Writes, FailsToWrite};
 
 use cbsrun_io::{ByteOutput, ReadError, write_pieces};
-use cbsrun_tasks::{FileFault, Place};
 use cbsrun_lines::RunError;
 use cbsrun_runs::NothingShown;
+use cbsrun_tasks::{FileFault, Place};
 use itoa::Buffer;
 use std::io;
 
@@ -70,7 +70,10 @@ pub fn write_run_fault<E: ByteOutput>(err: &mut E, fault: RunError) -> io::Resul
 
 /// Writes the line of a run that has none of the ticks to show.
 #[tactic(auto, unfolding(crate::specs::FaultLines::nothing_shown_line))]
-pub(crate) fn write_nothing_shown<E: ByteOutput>(err: &mut E, nothing: NothingShown) -> io::Result<()>
+pub(crate) fn write_nothing_shown<E: ByteOutput>(
+    err: &mut E,
+    nothing: NothingShown,
+) -> io::Result<()>
     requires { MayWrite (E.state err.old) }
     ensures ok { OnOk result (Writes (E.state err.old) (E.state err.new)
         (nothing_shown_line nothing.from nothing.end)) }

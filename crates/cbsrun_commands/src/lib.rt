@@ -15,13 +15,13 @@ mod result_lines;
 mod run;
 mod serve;
 
+pub use cbsrun_command_line::{Action, Asked, Drawing, Form, Verb, Window, WordsFault, read_words};
 pub use cbsrun_io::{
     ByteInput, ByteOutput, FromRead, MAX_BYTES, ReadError, ToWrite, read_all, write_pieces,
     write_text,
 };
 pub use cbsrun_lines::{RunError, replay};
 pub use cbsrun_runs::{NoProgress, Progress};
-pub use cbsrun_command_line::{Action, Asked, Drawing, Form, Verb, Window, WordsFault, read_words};
 pub use check::check_bytes_within;
 pub use ending::{BAD_FILE, DONE, RUN_FAULT, WRONG_WORDS};
 pub use environment::{MEMORY_VARIABLE, memory_bound};

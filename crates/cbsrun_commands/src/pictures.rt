@@ -13,14 +13,14 @@ ghost use Rattle.cbsrun_lines.specs.Writers.{MayWrite};
 
 use crate::ending::{Stopped, print, status_of};
 use crate::reading::{load_file, task_file};
-use cbsrun_io::ByteOutput;
 use cbsrun_chart::{Picture, Window};
+use cbsrun_command_line::Drawing;
+use cbsrun_io::ByteOutput;
 use cbsrun_lines::RunError;
+use cbsrun_perfetto::trace_json;
 use cbsrun_runs::{NoProgress, Progress, Replay, Run, clock_of, picture_of, shown_of};
 use cbsrun_svg::svg_text;
 use cbsrun_timeline::timeline_text;
-use cbsrun_perfetto::trace_json;
-use cbsrun_command_line::Drawing;
 use std::alloc::{AllocError, Global};
 
 /// Returns the text of a picture of at most 64 servers, in this drawing.
@@ -97,7 +97,15 @@ fn draw_tasks<O: ByteOutput>(
     let window = shown_of(asked, end)?;
     let tasks = task_file(alloc, memory, bytes)?;
     let mut replay = Replay::of(tasks);
-    print_picture(alloc, drawing, window, name, &mut replay, &mut NoProgress, out)?;
+    print_picture(
+        alloc,
+        drawing,
+        window,
+        name,
+        &mut replay,
+        &mut NoProgress,
+        out,
+    )?;
     Ok(())
 }
 

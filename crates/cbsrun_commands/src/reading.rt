@@ -5,8 +5,8 @@ ghost use Rattle.cbsrun_loads.specs.Spelling.{load};
 ghost use Rattle.cbsrun_tables.specs.Documents.{no_memory};
 ghost use Rattle.cbsrun_tables.specs.Fields.{Gives};
 
-use cbsrun_tasks::{FileFault, TaskFile, read_file_within};
 use cbsrun_loads::{Load, read_load_within};
+use cbsrun_tasks::{FileFault, TaskFile, read_file_within};
 use std::alloc::Global;
 
 /// Returns the task file that the bytes spell, or its first fault. If it has to be read as one document that needs more

@@ -10,12 +10,12 @@ ghost use Rattle.cbsrun_lines.specs.Writers.{IsUntouched, MayWrite};
 
 use crate::ending::{Stopped, print, status_of};
 use crate::reading::{load_file, task_file};
-use cbsrun_io::ByteOutput;
-use cbsrun_report_json::report_json;
-use cbsrun_lines::RunError;
-use cbsrun_runs::{NoProgress, Progress, Replay, Run, report_of};
-use cbsrun_report_text::{RunReport, report_text};
 use cbsrun_command_line::Form;
+use cbsrun_io::ByteOutput;
+use cbsrun_lines::RunError;
+use cbsrun_report_json::report_json;
+use cbsrun_report_text::{RunReport, report_text};
+use cbsrun_runs::{NoProgress, Progress, Replay, Run, report_of};
 use std::alloc::{AllocError, Global};
 
 /// Returns the text of a report of at most 64 servers, in this form.

@@ -17,11 +17,11 @@ ghost use Rattle.cbsrun_lines.specs.Writers.{Leaves, MayWrite};
 
 use crate::jobs_by_server::jobs_by_server;
 use crate::result_lines::result_text;
-use cbsrun_io::{ByteOutput, write_text};
-use cbsrun_tasks::{Parts, TaskFile};
 use cbs_house::{Feed, House, HouseError, OpenGate, open_feeds, serve};
 use cbs_job::FileJob;
+use cbsrun_io::{ByteOutput, write_text};
 use cbsrun_lines::RunError;
+use cbsrun_tasks::{Parts, TaskFile};
 use std::alloc::Global;
 use std::thread::Threads;
 use std::time::Clock;

@@ -9,8 +9,8 @@ ghost use Rattle.cbsrun_fault_texts.specs.Spots.{IsSpotLine};
 
 use crate::over::append_over;
 use crate::page::Page;
-use cbsrun_faults::{Refused, Spot, refused_at};
 use cbs_rate::{AdmitError, MAX_COMMON_MULTIPLE, MAX_SERVERS};
+use cbsrun_faults::{Refused, Spot, refused_at};
 use cbsrun_tables::FileKind;
 
 /// Appends that a plan takes no more servers.

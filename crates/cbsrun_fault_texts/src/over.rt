@@ -14,10 +14,10 @@ ghost use Rattle.cbsrun_fault_texts.specs.Shares.{IsShare, IsShortened};
 ghost use Rattle.cbsrun_fault_texts.specs.Spots.{IsSpotLine};
 
 use crate::page::Page;
-use cbsrun_check_text::{append_fraction, append_percent};
-use cbsrun_faults::{Document, Refused, Spot, reservations};
 use cbs_guarantee::{Part, SplitError, split};
 use cbs_rate::{Bandwidth, Bound, Plan, Ratio, Reservation};
+use cbsrun_check_text::{append_fraction, append_percent};
+use cbsrun_faults::{Document, Refused, Spot, reservations};
 use cbsrun_sizing::greatest_common_divisor;
 use std::alloc::{AllocError, Global};
 

@@ -6,9 +6,9 @@ ghost use Rattle.cbsrun_check_text.specs.Fractions.{fraction_text};
 ghost use Rattle.cbsrun_fault_texts.specs.Pages.{Appends, AppendsA, times, left_in, right_in, bar, marked_line, words_of, spaced, IsLaid, AppendsNote};
 ghost use Rattle.cbsrun_fault_texts.specs.Spots.{IsSpotLine};
 
+use cbs_rate::Ratio;
 use cbsrun_check_text::append_fraction;
 use cbsrun_faults::Spot;
-use cbs_rate::Ratio;
 use cbsrun_tables::FileKind;
 use cbsrun_text::append_pair;
 use std::alloc::{AllocError, Global};

@@ -2,9 +2,9 @@
 
 use cbs_core::MAX_BACKLOG;
 use cbs_job::MAX_UNITS;
-use cbsrun_loads::MAX_SOURCES;
 use cbs_rate::{MAX_PERIOD, MAX_RING};
 use cbs_rules::LIMIT;
+use cbsrun_loads::MAX_SOURCES;
 
 /// The longest advance of a step in a file of format 1, in ticks.
 const OLD_ADVANCE: u64 = 1_000_000_000;

@@ -5,8 +5,8 @@ ghost use Rattle.cbsrun_lines.specs.Lines.{call_text, error_text, ran_text, resu
 ghost use Rattle.cbsrun_lines.specs.Lines.{state_text, line_of, view_told};
 
 use cbs_core::{CoreError, Ran, ServerView};
-use cbsrun_text::append_pair;
 use cbsrun_events::{Event, Seen};
+use cbsrun_text::append_pair;
 use std::alloc::AllocError;
 
 /// Appends the call of a step to a text. The only error is out of memory.

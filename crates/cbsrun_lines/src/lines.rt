@@ -9,9 +9,9 @@ ghost use Rattle.cbsrun_lines.specs.WritingLines.{HasWritten, WroteSome};
 
 use crate::line::write_line;
 use crate::run_error::RunError;
+use cbsrun_events::{Seen, View};
 use cbsrun_io::{ByteOutput, Pending};
 use cbsrun_runs::Run;
-use cbsrun_events::{Seen, View};
 use std::alloc::{AllocError, Global};
 
 /// A view that writes the line of each step to the writer that it is lent.

@@ -9,8 +9,8 @@ ghost use Rattle.cbsrun_runs.specs.Tasks.{seen_in_tasks};
 use crate::lines::write_lines;
 use crate::run_error::RunError;
 use cbsrun_io::ByteOutput;
-use cbsrun_tasks::TaskFile;
 use cbsrun_runs::Replay;
+use cbsrun_tasks::TaskFile;
 use std::alloc::Global;
 
 /// Runs the steps of a task file on a new core, and writes a line for each step.

@@ -33,10 +33,14 @@ fn admit_entry(
     entry: &Value,
 ) -> Result<(), FileKind>
     requires { length names.old.items ≡ length setup.old.plan.rates }
-    ensures servers { Gives OutOfMemory (λ _. record { names = map string_bytes names.new.items;
-        setup = setup.new }) result
-        (admitted_entry (record { names = map string_bytes names.old.items;
-        setup = setup.old }) (view entry.now)) }
+    ensures servers { Gives OutOfMemory (λ _. record {
+      names = map string_bytes names.new.items;
+      setup = setup.new;
+    }) result
+        (admitted_entry (record {
+          names = map string_bytes names.old.items;
+          setup = setup.old;
+        }) (view entry.now)) }
     ensures named { OnOk result (length names.new.items ≡ length setup.new.plan.rates) }
 {
     let server = match server_entry(entry) {
@@ -60,10 +64,14 @@ fn servers_of(
     bound: Bound,
     entries: &[Value],
 ) -> Result<(Vec<String>, Setup), FileFault>
-    ensures servers { Gives no_memory (λ s. record { names = map string_bytes s.0.items;
-        setup = s.1 }) result
-        (taken_in admitted_entry 0 (record { names = [];
-        setup = no_servers bound }) (map view entries.now)) }
+    ensures servers { Gives no_memory (λ s. record {
+      names = map string_bytes s.0.items;
+      setup = s.1;
+    }) result
+        (taken_in admitted_entry 0 (record {
+          names = [];
+          setup = no_servers bound;
+        }) (map view entries.now)) }
     ensures named { IfOk result (λ s. length s.0.items ≡ length s.1.plan.rates) }
 {
     let mut names = Vec::new(alloc);

@@ -10,9 +10,9 @@ use crate::marks::{
     append_arrivals, append_budgets, append_deadlines, append_ends, append_refusals,
 };
 use crate::slices::append_slices;
-use cbsrun_chart::{Drawn, Window};
 use cbs_rate::Reservation;
 use cbs_rules::Mode;
+use cbsrun_chart::{Drawn, Window};
 use cbsrun_text::mode_word;
 use std::alloc::{AllocError, Global};
 

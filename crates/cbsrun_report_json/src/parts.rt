@@ -6,8 +6,8 @@ ghost use Rattle.cbsrun_report_json.specs.Json.{seed_data, jobs_data, within_dat
 
 use crate::figures::{Figure, object_of, pair_value};
 use crate::sums::{Sum, told};
-use cbsrun_report_text::{RunReport, ServerReport};
 use cbsrun_figures::Figures;
+use cbsrun_report_text::{RunReport, ServerReport};
 use cbsrun_simulate::Range;
 use serde_json::{Map, Value, put};
 use std::alloc::{AllocError, Global};

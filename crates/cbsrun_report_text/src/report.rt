@@ -6,8 +6,8 @@ ghost use Rattle.cbsrun_report_text.specs.Reports.{accepted, is_in_time, late, r
 ghost use Rattle.cbsrun_report_text.specs.Tables.{is_asked_too_much};
 
 use cbs_rate::{Bandwidth, Bound, Reservation};
-use cbsrun_figures::Figures;
 use cbs_rules::Mode;
+use cbsrun_figures::Figures;
 use cbsrun_simulate::Range;
 
 /// The content of a report on one server.

@@ -5,9 +5,9 @@ ghost use Rattle.cbsrun_runs.specs.Loads.{AreThrottled, run_of, seen_in};
 ghost use Rattle.cbsrun_runs.specs.Runs.{AreInOrder};
 ghost use Rattle.cbsrun_runs.specs.Showing.{SawSome};
 
+use cbsrun_events::View;
 use cbsrun_loads::Load;
 use cbsrun_simulate::{load_of, simulate_plan};
-use cbsrun_events::View;
 use std::alloc::{AllocError, Global};
 
 /// Simulates a load up to its end, and shows each step to the view. The view has to be ready.

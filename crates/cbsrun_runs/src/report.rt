@@ -8,8 +8,8 @@ ghost use Rattle.cbsrun_runs.specs.Runs.{IsReportOf, SameServers};
 
 use crate::progress::{Progress, Telling};
 use crate::run::Run;
-use cbsrun_report_text::{RunReport, ServerReport};
 use cbsrun_figures::{Figures, Report};
+use cbsrun_report_text::{RunReport, ServerReport};
 use std::alloc::{AllocError, Global};
 
 /// The outcome of a run: the figures of the servers, in how many ticks nobody ran, and the tick at which it ended.

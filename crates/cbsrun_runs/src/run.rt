@@ -6,8 +6,8 @@ ghost use Rattle.cbsrun_runs.specs.Showing.{SawSome};
 
 use cbs_rate::Plan;
 use cbs_rules::Modes;
-use cbsrun_simulate::Range;
 use cbsrun_events::View;
+use cbsrun_simulate::Range;
 use std::alloc::{AllocError, Global};
 
 /// A run that can be shown: servers, and the steps that are made on them. A load whose jobs are simulated is a run, and

@@ -6,11 +6,11 @@ ghost use Rattle.cbsrun_runs.specs.Loads.{run_of};
 use crate::load_steps::show_load;
 use crate::run::Run;
 use crate::within::within_of;
-use cbsrun_loads::Load;
 use cbs_rate::Plan;
 use cbs_rules::Modes;
-use cbsrun_simulate::Range;
 use cbsrun_events::View;
+use cbsrun_loads::Load;
+use cbsrun_simulate::Range;
 use std::alloc::{AllocError, Global};
 
 impl Run for Load {

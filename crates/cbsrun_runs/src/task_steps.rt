@@ -15,8 +15,8 @@ ghost use Rattle.cbsrun_runs.specs.Tasks.{CompletesAll, StopsAmong};
 
 use cbs_core::{Core, CoreError, Ran, Reply, Step};
 use cbs_job::FileJob;
-use cbsrun_simulate::seen_by;
 use cbsrun_events::{Arrival, Event, Seen, View};
+use cbsrun_simulate::seen_by;
 use std::alloc::AllocError;
 
 /// The request of a step, without its job.

@@ -41,16 +41,26 @@ pub fn simulate_plan<A: Allocator + Clone, R: Releases, C, V: View<C>>(
     requires ready { V.ready view.old lent.old }
     ensures simulates { IfOk result (λ core. SimulatesAlone loading job_of until V.saw
         (record {
-          history = record { setup = record { servers = terms_of modes.now plan.now.rates;
-          backlog = backlog }; steps = [] };
+          history = record {
+            setup = record {
+              servers = terms_of modes.now plan.now.rates;
+              backlog = backlog;
+            };
+            steps = [];
+          };
           coming = R.coming releases.old;
           owing = None;
         })
         core (view.old, lent.old) (view.new, lent.new)) }
     ensures stopped { OnErr result (SeesSome loading job_of until V.saw V.failed
         (record {
-          history = record { setup = record { servers = terms_of modes.now plan.now.rates;
-          backlog = backlog }; steps = [] };
+          history = record {
+            setup = record {
+              servers = terms_of modes.now plan.now.rates;
+              backlog = backlog;
+            };
+            steps = [];
+          };
           coming = R.coming releases.old;
           owing = None;
         })

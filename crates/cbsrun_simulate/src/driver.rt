@@ -182,18 +182,27 @@ fn make_next<A: Allocator, R: Releases, C, V: View<C>>(
     ensures stop { IfOk result (λ moved. stop.new ≡ stop_at until (R.coming releases.new)) }
     ensures moved { IfOk result (λ moved. moved ≡ true → (M : History LoadJob)
         → Agrees loading core.old M
-        → MakesNext loading job_of until V.saw (record { history = M;
-        coming = R.coming releases.old; owing = owing.old })
+        → MakesNext loading job_of until V.saw (record {
+          history = M;
+          coming = R.coming releases.old;
+          owing = owing.old;
+        })
         core.new (R.coming releases.new) owing.new (view.old, lent.old) (view.new, lent.new)) }
     ensures ended { IfOk result (λ moved. moved ≡ false → (M : History LoadJob)
         → Agrees loading core.old M
-        → Ended loading job_of {S = (V × C)} until (record { history = M;
-        coming = R.coming releases.old; owing = owing.old })
+        → Ended loading job_of {S = (V × C)} until (record {
+          history = M;
+          coming = R.coming releases.old;
+          owing = owing.old;
+        })
         core.old core.new (R.coming releases.new) owing.new (view.old, lent.old)
         (view.new, lent.new)) }
     ensures stopped { OnErr result ((M : History LoadJob) → Agrees loading core.old M
-        → Stops loading job_of until V.saw V.failed (record { history = M;
-        coming = R.coming releases.old; owing = owing.old }) core.new
+        → Stops loading job_of until V.saw V.failed (record {
+          history = M;
+          coming = R.coming releases.old;
+          owing = owing.old;
+        }) core.new
         (view.old, lent.old) (view.new, lent.new)) }
 {
     match *owing {
@@ -238,12 +247,18 @@ pub fn simulate<A: Allocator, R: Releases, C, V: View<C>>(
     requires history { HasHistory loading core.old }
     requires ready { V.ready view.old lent.old }
     ensures simulates { OnOk result ((M : History LoadJob) → Agrees loading core.old M
-        → Simulates loading job_of until V.saw (record { history = M;
-        coming = R.coming releases.old; owing = None })
+        → Simulates loading job_of until V.saw (record {
+          history = M;
+          coming = R.coming releases.old;
+          owing = None;
+        })
         core.new (view.old, lent.old) (view.new, lent.new)) }
     ensures stopped { OnErr result ((M : History LoadJob) → Agrees loading core.old M
-        → Stops loading job_of until V.saw V.failed (record { history = M;
-        coming = R.coming releases.old; owing = None }) core.new
+        → Stops loading job_of until V.saw V.failed (record {
+          history = M;
+          coming = R.coming releases.old;
+          owing = None;
+        }) core.new
         (view.old, lent.old) (view.new, lent.new)) }
 {
     let mut owing = None;

@@ -31,8 +31,10 @@ impl Model for Range {
 impl Range {
     /// Returns the range from `least` to `greatest`, or `None` if `least` is greater than `greatest`.
     pub fn new(least: u64, greatest: u64) -> Option<Range>
-        ensures { SomeIff result (least ≤ greatest) (record { least = least;
-            greatest = greatest }) }
+        ensures { SomeIff result (least ≤ greatest) (record {
+          least = least;
+          greatest = greatest;
+        }) }
     {
         if least > greatest {
             return None;

@@ -7,8 +7,8 @@ ghost use Rattle.cbsrun_sizing.specs.ServerLoads.{held, at_most, sources_of, mos
 
 use crate::asked::{Asked, asked_by};
 use cbs_guarantee::{MAX_DELAY, Source, guaranteed};
-use cbsrun_loads::Load;
 use cbs_rate::Reservation;
+use cbsrun_loads::Load;
 use cbsrun_simulate::SourceTerms;
 use std::alloc::{AllocError, Global};
 

@@ -4,8 +4,8 @@ ghost use Rattle.std.specs.Prelude.{◌≡◌, ◌+◌, ◌≤◌, ◌++◌, IfO
 ghost use Rattle.cbsrun_svg.specs.Heads.{all_units, came_text, column_text, figures_text, heading_text, hidden_text, is_late, is_late_at, is_whole, sentence_text, servers_text, summary_text, tenths_of, who_text};
 
 use crate::row::{terms_text, units_of};
-use cbsrun_chart::{ChartJob, Counts, Drawn, Picture, Window};
 use cbs_rate::Bandwidth;
+use cbsrun_chart::{ChartJob, Counts, Drawn, Picture, Window};
 use cbsrun_figures::exceeds;
 use cbsrun_text::mode_word;
 use std::alloc::{AllocError, Global};

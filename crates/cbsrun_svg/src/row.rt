@@ -3,9 +3,9 @@
 ghost use Rattle.std.specs.Prelude.{◌≡◌, ◌≤◌, ◌++◌, IfOk, OnOk, string_bytes};
 ghost use Rattle.cbsrun_svg.specs.Rows.{band_text, bars_text, charged_text, dense_text, fine_text, inside_text, lates_text, layer_shape, layer_text, line_text, marks_text, names_text, row_text, short_terms_text, spans_text, terms_text, text_line, units_of, units_text, units_title};
 
-use cbsrun_chart::{Counts, Drawn, ServerChart, Stretch, Window};
 use cbs_rate::Reservation;
 use cbs_rules::Mode;
+use cbsrun_chart::{Counts, Drawn, ServerChart, Stretch, Window};
 use cbsrun_svg_shapes::{
     Axis, Layer, Layout, Place, append_arrivals, append_budget, append_columns, append_completions,
     append_deadlines, append_label, append_late, append_pale, append_path, append_refused,

@@ -9,8 +9,8 @@ use crate::layout::Layout;
 use crate::shapes::{
     append_box, append_label, append_path, append_stretch, append_titled, width_of,
 };
-use cbsrun_chart::{ChartJob, Kind, Stretch, job_numbered};
 use cbs_rules::Mode;
+use cbsrun_chart::{ChartJob, Kind, Stretch, job_numbered};
 use std::alloc::{AllocError, Global};
 use std::fmt::Write;
 

@@ -25,9 +25,11 @@ use crate::top::top_table;
 use cbs_core::Step;
 use cbs_job::FileJob;
 use cbs_rate::Bound;
-use cbsrun_toml::Stop;
 use cbs_rules::{Mode, Setup};
-use cbsrun_tables::{Bounded, FileFault, FileKind, MEMORY, Place, at, document, faulty, wants_within};
+use cbsrun_tables::{
+    Bounded, FileFault, FileKind, MEMORY, Place, at, document, faulty, wants_within,
+};
+use cbsrun_toml::Stop;
 use std::alloc::Global;
 use toml::Value;
 

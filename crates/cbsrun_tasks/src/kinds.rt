@@ -6,8 +6,8 @@ ghost use Rattle.cbsrun_tables.specs.Documents.{has_key, no_memory};
 ghost use Rattle.cbsrun_tables.specs.Fields.{Gives};
 
 use crate::stream::read_document;
-use cbsrun_toml::Stop;
 use cbsrun_tables::{Bounded, FileFault, FileKind, Place, at, document, faulty, wants_within};
+use cbsrun_toml::Stop;
 use std::alloc::Global;
 
 /// Returns whether the bytes spell a load, if they are read in pieces as [`read_document`] does.

@@ -96,8 +96,13 @@ impl TaskFile {
 
     /// Returns the parts of the file. This takes no memory.
     pub fn into_parts(self) -> Parts
-        ensures value { record { modes = result.setup.modes; plan = result.setup.plan;
-            backlog = result.backlog; ring = result.ring; steps = result.steps.items } ≡ self }
+        ensures value { record {
+          modes = result.setup.modes;
+          plan = result.setup.plan;
+          backlog = result.backlog;
+          ring = result.ring;
+          steps = result.steps.items;
+        } ≡ self }
         ensures lawful { IsFile self }
     {
         let TaskFile {

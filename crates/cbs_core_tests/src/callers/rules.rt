@@ -12,8 +12,10 @@ use cbs_rules::{Mode, ServerState, Setup};
 /// Returns a new server after a job came to it at tick `now` and it used one tick.
 pub fn after_a_unit(mode: Mode, reservation: Reservation, now: u64) -> ServerState
     requires { now ≤ clock_end }
-    ensures { result ≡ record { reservation = reservation;
-        state = after_unit mode reservation (after_arrival mode reservation now fresh_state) } }
+    ensures { result ≡ record {
+      reservation = reservation;
+      state = after_unit mode reservation (after_arrival mode reservation now fresh_state);
+    } }
 {
     let mut server = ServerState::fresh(reservation);
     server.arrive_idle(mode, now);

@@ -20,8 +20,13 @@ pub fn opened_in_time<W: Work>(
 ) -> Result<House<W>, HouseError>
     requires { length modes ≡ length plan.rates }
     ensures { OnOk result ((steps : List (Step W))
-        → IsPunctual W.meaning (record { setup = record { servers = terms_of modes plan.rates;
-        backlog = 4 }; steps = steps })) }
+        → IsPunctual W.meaning (record {
+          setup = record {
+            servers = terms_of modes plan.rates;
+            backlog = 4;
+          };
+          steps = steps;
+        })) }
 {
     let (house, _clients) = open_house(alloc, plan, modes, 4, 4)?;
     Ok(house)

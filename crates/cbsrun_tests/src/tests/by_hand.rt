@@ -1,8 +1,8 @@
 //! A picture that is made by hand.
 
-use cbsrun_chart::{ChartJob, Corner, Drawn, Kind, Picture, ServerChart, Stretch, Window};
 use cbs_rate::{Bandwidth, Reservation};
 use cbs_rules::Mode;
+use cbsrun_chart::{ChartJob, Corner, Drawn, Kind, Picture, ServerChart, Stretch, Window};
 use std::alloc::{AllocError, Global};
 use std::process::Abort;
 

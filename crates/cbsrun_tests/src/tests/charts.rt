@@ -1,10 +1,10 @@
 //! The chart of a few steps that are made by hand.
 
 use super::{same, same_stretches};
-use cbsrun_chart::{Chart, ChartView, Counts, Kind, Window, WindowError};
 use cbs_job::Completion;
 use cbs_rate::{Bound, Plan, Reservation};
 use cbs_steps::{CoreError, Ran, ServerView};
+use cbsrun_chart::{Chart, ChartView, Counts, Kind, Window, WindowError};
 use cbsrun_events::{Arrival, Event, Seen, View};
 use std::alloc::Global;
 use std::test::Fail;

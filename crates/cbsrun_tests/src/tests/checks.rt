@@ -3,10 +3,10 @@
 
 use crate::tests::printing::{LOAD, LOAD_CHECKED};
 use crate::tests::same;
-use cbsrun_check_text::{check_load, check_plan};
-use cbsrun_loads::read_load;
 use cbs_rate::{Bound, Plan};
 use cbs_rules::Modes;
+use cbsrun_check_text::{check_load, check_plan};
+use cbsrun_loads::read_load;
 
 #[test]
 fn a_load(rt: HostRuntime) {

@@ -1,8 +1,8 @@
 //! The texts of errors.
 
 use super::says;
-use cbsrun_tasks::FileKind;
 use cbsrun_commands::{ReadError, RunError};
+use cbsrun_tasks::FileKind;
 
 /// The text of each fault of a file.
 static OF_FILES: [(FileKind, &str); 7] = [

@@ -3,9 +3,9 @@
 use super::same;
 use cbs_job::Completion;
 use cbs_rate::{Bound, Plan, Reservation};
-use cbsrun_figures::{Figures, Ranks, Report};
 use cbs_steps::{CoreError, Ran, ServerView};
 use cbsrun_events::{Arrival, Event, Seen, View};
+use cbsrun_figures::{Figures, Ranks, Report};
 use std::alloc::Global;
 use std::process::Abort;
 

@@ -4,9 +4,9 @@
 use super::fakes::ran;
 use super::{FIRST, same, says};
 use cbs_core::Step;
-use cbsrun_tasks::{FileFault, FileKind, Place, TaskFile, read_file};
 use cbs_rules::Mode;
 use cbsrun_commands::{BAD_FILE, Verb};
+use cbsrun_tasks::{FileFault, FileKind, Place, TaskFile, read_file};
 use std::alloc::Global;
 use std::process::Abort;
 use std::thread::Threads;

@@ -3,9 +3,9 @@
 
 use crate::tests::reports::{NOTHING, Row, Run, report_of};
 use crate::tests::same;
-use cbsrun_report_json::report_json;
-use cbsrun_figures::{Figures, Ranks};
 use cbs_rules::Mode;
+use cbsrun_figures::{Figures, Ranks};
+use cbsrun_report_json::report_json;
 use std::alloc::{AllocError, Global};
 
 /// Returns a line that is made of these parts.

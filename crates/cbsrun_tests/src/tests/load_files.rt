@@ -3,10 +3,10 @@
 
 use super::same;
 use crate::tests::sample_loads::ROBOT;
-use cbsrun_loads::{Load, read_load};
 use cbs_rules::Mode;
-use cbsrun_simulate::{Range, SourceTerms, simulate_plan};
 use cbsrun_events::{Seen, View};
+use cbsrun_loads::{Load, read_load};
+use cbsrun_simulate::{Range, SourceTerms, simulate_plan};
 use std::alloc::{AllocError, Global};
 use std::process::Abort;
 

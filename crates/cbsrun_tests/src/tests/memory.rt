@@ -2,8 +2,8 @@
 
 use super::fakes::{Memory, Outcome, replays};
 use super::{FIRST, FIRST_LINES, same};
-use cbsrun_tasks::{Bounded, FileKind, TaskFile, read_file, read_file_within, wants_within};
 use cbsrun_commands::{Verb, memory_bound, run_bytes_within};
+use cbsrun_tasks::{Bounded, FileKind, TaskFile, read_file, read_file_within, wants_within};
 use std::alloc::Global;
 use std::process::Abort;
 use std::thread::Threads;

@@ -1,9 +1,9 @@
 //! The report of a task file, worked out by hand from the file's comments.
 
 use super::same;
-use cbsrun_tasks::read_file;
-use cbsrun_runs::{NoProgress, Replay, report_of};
 use cbsrun_figures::{Figures, Ranks};
+use cbsrun_runs::{NoProgress, Replay, report_of};
+use cbsrun_tasks::read_file;
 
 /// Two throttled servers. The first has to wait for its deadline. The second refuses a job after its close.
 const THROTTLED: &str = r#"

@@ -1,9 +1,9 @@
 //! Reports of runs, as tables.
 
-use cbsrun_report_text::{RunReport, ServerReport};
 use cbs_rate::{Bandwidth, Bound, Reservation};
-use cbsrun_figures::{Figures, Ranks};
 use cbs_rules::Mode;
+use cbsrun_figures::{Figures, Ranks};
+use cbsrun_report_text::{RunReport, ServerReport};
 use cbsrun_simulate::Range;
 use std::alloc::Global;
 use std::process::Abort;

@@ -2,8 +2,8 @@
 
 use super::{same, same_stretches};
 use cbsrun_chart::{Kind, Picture, Window};
-use cbsrun_tasks::{TaskFile, read_file};
 use cbsrun_runs::{NoProgress, Replay, clock_of, picture_of, shown_of};
+use cbsrun_tasks::{TaskFile, read_file};
 use std::alloc::Global;
 use std::process::Abort;
 

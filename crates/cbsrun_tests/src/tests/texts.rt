@@ -5,9 +5,9 @@
 
 use crate::tests::reports::{CONTROL, LIDAR, NOTHING, Row, Run, report_of};
 use crate::tests::same;
-use cbsrun_report_text::report_text;
-use cbsrun_figures::{Figures, Ranks};
 use cbs_rules::Mode;
+use cbsrun_figures::{Figures, Ranks};
+use cbsrun_report_text::report_text;
 use std::alloc::Global;
 use std::process::Abort;
 
