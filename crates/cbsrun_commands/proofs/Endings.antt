@@ -1,8 +1,12 @@
 -- How a command on a file ends, by what it did and by what was told of it.
-use Rattle.std.proofs.Common.{◌≡◌, List, ℕ, ap, Result, Ok, Err}
+use Rattle.std.proofs.Common.{◌≡◌, List, ℕ, ap, subst, Result, Ok, Err}
 use Rattle.cbsrun_tasks.specs.Spelling.{file}
 use Rattle.cbsrun_tasks.specs.TaskFiles.{File}
-use Rattle.cbsrun_runs.specs.Tasks.{clock_of_tasks}
+use Rattle.cbsrun_runs.specs.Runs.{IsPictureOf}
+use Rattle.cbsrun_runs.specs.Tasks.{clock_of_tasks, run_of_tasks}
+use Rattle.cbsrun_command_line.specs.declared.actions.Drawing.{Drawing}
+use Rattle.cbsrun_command_line.specs.declared.actions.Form.{Form}
+use Rattle.cbsrun_commands.specs.Reported.{IsRunText, IsTaskReportText}
 use Rattle.cbsrun_window.specs.Windows.{AnswersShown}
 use Rattle.cbsrun_window.specs.declared.shown.NothingShown.{NothingShown}
 use Rattle.cbsrun_window.specs.declared.window.Window.{Window}
@@ -12,7 +16,7 @@ use Rattle.cbsrun_lines.specs.declared.run_error.RunError.{RunError}
 use Rattle.cbsrun_lines.specs.declared.run_error.RunError.TheVariants.{OutOfMemory, WriteFault, ClockEnd, Stalled}
 use Rattle.cbsrun_commands.specs.Commands.{Command, Does, Tells, printing_command}
 use Rattle.cbsrun_commands.specs.FaultLines.{nothing_shown_line}
-use Rattle.cbsrun_commands.specs.Pictured.{EndsDrawing, drawing_command, printed, nothing_shown}
+use Rattle.cbsrun_commands.specs.Pictured.{EndsDrawing, IsDrawingOf, drawing_command, printed, nothing_shown}
 use Rattle.cbsrun_commands.specs.Printing.{EndsPrinting, Prints, StopsPrinting, done, refused, stopped}
 use Rattle.cbsrun_commands.specs.declared.ending.Stopped.{Stopped}
 use Rattle.cbsrun_commands.specs.declared.ending.Stopped.TheVariants.{Unread, Ended, Run}
@@ -34,6 +38,15 @@ prints_as is is' f (Err error) old new h = stops_as is is' f IsUntouched error o
 -- bytes spell one file, whose steps end at one tick
 pub same_file : (bytes : List ℕ) (f h : File) → file bytes ≡ Ok f → file bytes ≡ Ok h → clock_of_tasks f ≡ clock_of_tasks h
 same_file bytes f h p q = let same : f ≡ h = cc in ap clock_of_tasks same
+
+-- the report, and the picture, of a task file are those of its run
+pub told_of : (form : Form) (name : List ℕ) (r f : File) (text : List ℕ) → r ≡ f → IsRunText form name (run_of_tasks r) text
+    → IsTaskReportText form name f text
+told_of form name r f text is told = subst (λ (g : File). IsRunText form name (run_of_tasks g) text) is told
+
+pub drawn_of : (drawing : Drawing) (name : List ℕ) (w : Window) (r f : File) (text : List ℕ) → r ≡ f
+    → IsDrawingOf drawing (IsPictureOf name (run_of_tasks r) w) text → IsDrawingOf drawing (IsPictureOf name (run_of_tasks f) w) text
+drawn_of drawing name w r f text is drawn = subst (λ (g : File). IsDrawingOf drawing (IsPictureOf name (run_of_tasks g) w) text) is drawn
 
 -- a command that always has something to show ends as one that prints a text
 pub ends_printing : {F : Type 0} (c : Command F) → ((f : F) (e : NothingShown) → c.nothing f e → ⊥) → (bytes : List ℕ) (out out' err err' : Writer)

@@ -1,7 +1,7 @@
 //! A job of the robot: it follows a distance by the readings of a sensor.
 
 ghost use Rattle.std.specs.Prelude.{◌≡◌, ◌≤◌, length, drop};
-ghost use Rattle.robot.specs.Tracks.{Track, smoothed, is_outlier, tracking};
+ghost use Rattle.example_robot.specs.Tracks.{Track, smoothed, is_outlier, tracking};
 
 use cbs_job::Work;
 use std::marker::Model;
@@ -45,7 +45,7 @@ impl TrackJob {
 }
 
 impl Work for TrackJob {
-    ghost use Rattle.robot.specs.Tracks.{tracking_lowers};
+    ghost use Rattle.example_robot.specs.Tracks.{tracking_lowers};
 
     ghost meaning = { tracking };
 

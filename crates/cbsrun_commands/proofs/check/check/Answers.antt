@@ -22,7 +22,7 @@ returns-in_err-print g c =
     rw (p.1, p.2) (
       c.in_ok-file.file,
       c.in_ok-file.ensures,
-      stops_as _ _ (λ t e. subst (λ (x : List ℕ). IsCheckText c.in_ok-file.file x) (sym (e ∙ c.deref.ensures.value)) c.in_ok-text.ensures) IsUntouched _ _ _
+      stops_as _ _ (λ t e. subst (λ (x : List ℕ). IsCheckText c.in_ok-file.file x) (sym (e ∙ c.deref.ensures)) c.in_ok-text.ensures) IsUntouched _ _ _
           c.in_err-print.ensures,
     )
 
@@ -32,6 +32,6 @@ returns g c =
       c.in_ok-file.file,
       p.0,
       c.in_ok-file.ensures,
-      subst (λ (x : List ℕ). IsCheckText c.in_ok-file.file x) (sym (p.1 ∙ c.deref.ensures.value)) c.in_ok-text.ensures,
+      subst (λ (x : List ℕ). IsCheckText c.in_ok-file.file x) (sym (p.1 ∙ c.deref.ensures)) c.in_ok-text.ensures,
       p.2,
     )

@@ -1,6 +1,8 @@
 use Rattle.std.proofs.Common.{refl}
 use Rattle.std.proofs.lemmas.Result.{err_from_is_err_and}
 use Rattle.cbsrun_lines.proofs.Writers.{untouched}
+use Rattle.cbsrun_lines.specs.Traces.{load_lines, WritesSomeLines}
+use Rattle.cbsrun_runs.specs.Loads.{seen_in}
 use Rattle.cbsrun_commands.proofs.Printings.{prints_short}
 use Rattle.cbsrun_commands.proofs.load_steps.write_steps.Goals as goal
 
@@ -12,7 +14,8 @@ returns-in_err-load g c =
 pub returns-in_err-write_lines : goal.returns-in_err-write_lines
 returns-in_err-write_lines g c =
     let p = err_from_is_err_and c.from_residual-in_err-write_lines.result c.from_residual-in_err-write_lines.ensures.1 in
-    rw (p.1, p.2) (c.in_ok-load.load, c.in_ok-load.ensures, prints_short _ _ _ _ _ c.in_err-write_lines.ensures.written)
+    let f = c.in_ok-load.load in
+    rw (p.1, p.2) (f, c.in_ok-load.ensures, prints_short (load_lines f) (WritesSomeLines (seen_in f)) c.in_err-write_lines.field-0.0 _ _ c.in_err-write_lines.ensures.written)
 
 pub returns : goal.returns
 returns g c = (c.in_ok-load.load, _, c.in_ok-load.ensures, refl, c.in_ok-write_lines.ensures.written)

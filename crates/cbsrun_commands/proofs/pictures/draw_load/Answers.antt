@@ -17,7 +17,7 @@ returns-in_err-window g c =
     rw (p.1, p.2) (
       c.in_ok-load.load,
       c.in_ok-load.ensures,
-      subst (λ (n : ℕ). AnswersShown c.args.asked n (Err c.in_err-window.field-0)) c.until.ensures.value c.in_err-window.ensures,
+      subst (λ (n : ℕ). AnswersShown c.args.asked n (Err c.in_err-window.field-0.0)) c.until.ensures.value c.in_err-window.ensures,
       untouched _,
     )
 

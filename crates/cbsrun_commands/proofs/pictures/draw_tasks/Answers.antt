@@ -4,7 +4,7 @@ use Rattle.cbsrun_lines.proofs.Writers.{untouched}
 use Rattle.cbsrun_lines.specs.Writers.{IsUntouched}
 use Rattle.cbsrun_runs.specs.Tasks.{clock_of_tasks}
 use Rattle.cbsrun_window.specs.Windows.{AnswersShown}
-use Rattle.cbsrun_commands.proofs.Endings.{same_file, stops_as}
+use Rattle.cbsrun_commands.proofs.Endings.{drawn_of, same_file, stops_as}
 use Rattle.cbsrun_commands.proofs.pictures.draw_tasks.Goals as goal
 
 pub returns-in_err-first : goal.returns-in_err-first
@@ -23,7 +23,7 @@ returns-in_err-window g c =
     rw (p.1, p.2) (
       c.in_ok-first.first,
       c.in_ok-first.ensures,
-      subst (λ (n : ℕ). AnswersShown c.args.asked n (Err c.in_err-window.field-0)) c.in_ok-end.ensures c.in_err-window.ensures,
+      subst (λ (n : ℕ). AnswersShown c.args.asked n (Err c.in_err-window.field-0.0)) c.in_ok-end.ensures c.in_err-window.ensures,
       untouched _,
     )
 
@@ -42,7 +42,8 @@ returns-in_err-print_picture g c =
     rw (p.1, p.2) (
       f,
       c.in_ok-tasks.ensures,
-      stops_as _ _ (λ text h. (c.in_ok-window.window, shown, h)) IsUntouched _ _ _ (rw c.of-replay.ensures at c.in_err-print_picture.ensures),
+      stops_as _ _ (λ text h. (c.in_ok-window.window, shown, drawn_of c.args.drawing c.args.name.now c.in_ok-window.window _ f text c.of-replay.ensures h))
+          IsUntouched _ _ _ c.in_err-print_picture.ensures,
     )
 
 pub returns : goal.returns
@@ -51,5 +52,6 @@ returns g c =
     let end : c.in_ok-end.end ≡ clock_of_tasks f = c.in_ok-end.ensures
     ∙ same_file c.args.bytes.now c.in_ok-first.first f c.in_ok-first.ensures c.in_ok-tasks.ensures in
     let shown = subst (λ (n : ℕ). AnswersShown c.args.asked n (Ok c.in_ok-window.window)) end c.in_ok-window.ensures in
-    let p = rw c.of-replay.ensures at c.in_ok-print_picture.ensures in
-    (f, p.0, c.in_ok-tasks.ensures, (c.in_ok-window.window, shown, p.1), p.2)
+    let p = c.in_ok-print_picture.ensures in
+    let drawn = drawn_of c.args.drawing c.args.name.now c.in_ok-window.window _ f p.0 c.of-replay.ensures p.1 in
+    (f, p.0, c.in_ok-tasks.ensures, (c.in_ok-window.window, shown, drawn), p.2)

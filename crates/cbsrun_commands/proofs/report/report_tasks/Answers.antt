@@ -1,7 +1,7 @@
 use Rattle.std.proofs.lemmas.Result.{err_from_is_err_and}
 use Rattle.cbsrun_lines.proofs.Writers.{untouched}
 use Rattle.cbsrun_lines.specs.Writers.{IsUntouched}
-use Rattle.cbsrun_commands.proofs.Endings.{stops_as}
+use Rattle.cbsrun_commands.proofs.Endings.{stops_as, told_of}
 use Rattle.cbsrun_commands.proofs.report.report_tasks.Goals as goal
 
 pub returns-in_err-tasks : goal.returns-in_err-tasks
@@ -15,10 +15,12 @@ returns-in_err-print_report g c =
     rw (p.1, p.2) (
       c.in_ok-tasks.tasks,
       c.in_ok-tasks.ensures,
-      stops_as _ _ (λ t h. h.0) IsUntouched _ _ _ (rw c.of-replay.ensures at c.in_err-print_report.ensures),
+      stops_as _ _ (λ t h. told_of c.args.form c.args.name.now _ c.in_ok-tasks.tasks t c.of-replay.ensures h.0) IsUntouched _ _ _
+          c.in_err-print_report.ensures,
     )
 
 pub returns : goal.returns
 returns g c =
-    let p = rw c.of-replay.ensures at c.in_ok-print_report.ensures in
-    (c.in_ok-tasks.tasks, p.0, c.in_ok-tasks.ensures, p.1.0, p.2)
+    let p = c.in_ok-print_report.ensures in
+    let told = told_of c.args.form c.args.name.now _ c.in_ok-tasks.tasks p.0 c.of-replay.ensures p.1.0 in
+    (c.in_ok-tasks.tasks, p.0, c.in_ok-tasks.ensures, told, p.2)
