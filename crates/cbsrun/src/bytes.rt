@@ -1,6 +1,7 @@
 //! The bytes of the file that the command line names, and why they could not be read.
 
 ghost use Rattle.std.specs.Prelude.{◌-◌, ◌<◌, ◌^◌};
+ghost use Rattle.cbsrun_io.specs.Writers.{MayWrite};
 
 use cbsrun_commands::{ByteOutput, FromRead, ReadError, read_all, write_pieces};
 use std::alloc::{AllocError, Global};

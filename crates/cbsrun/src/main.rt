@@ -5,6 +5,7 @@ mod bytes;
 mod progress;
 
 ghost use Rattle.std.specs.Prelude.{◌-◌, ◌<◌, ◌^◌};
+ghost use Rattle.cbsrun_io.specs.Writers.{MayWrite};
 
 use crate::bytes::{bytes_of, write_reason};
 use crate::progress::Teller;
