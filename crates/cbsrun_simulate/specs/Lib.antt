@@ -11,3 +11,10 @@ pub mod Shown
 pub mod Simulating
 pub mod SourceOrder
 pub mod Turns
+
+-- what the clauses name of the libraries below
+pub use Rattle.cbs_core.specs.Agreement
+pub use Rattle.cbs_rate.specs.Limits
+pub use Rattle.cbs_rules.specs.Rules
+pub use Rattle.cbs_steps.specs.History
+pub use Rattle.cbsrun_events.specs.Steps

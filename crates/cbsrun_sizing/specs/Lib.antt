@@ -5,3 +5,6 @@ pub mod ServerLoads
 pub mod Kept
 pub mod Lateness
 pub mod Shares
+
+-- what the clauses name of the libraries below
+pub use Rattle.cbs_rate.specs.Plan
