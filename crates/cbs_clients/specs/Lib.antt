@@ -11,7 +11,6 @@ pub mod UntilClosed
 pub mod Opened
 pub mod Errors
 pub mod Calls
-
 -- what the clauses name of the libraries below
 pub use Rattle.cbs_core.specs.Held
 pub use Rattle.cbs_host.specs.Meters as HostMeters

@@ -3,7 +3,6 @@ pub mod Calls
 pub mod Held
 pub mod Invariant
 pub mod Waiting
-
 -- what the clauses name of the libraries below
 pub use Rattle.cbs_lists.specs.Lists
 pub use Rattle.cbs_rate.specs.Limits

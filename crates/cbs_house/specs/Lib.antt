@@ -1,6 +1,5 @@
 pub mod Feeds
 pub mod Rounds
-
 -- what the clauses name of the libraries below
 pub use Rattle.cbs_clients.specs.Calls
 pub use Rattle.cbs_clients.specs.Houses

@@ -6,7 +6,6 @@ pub mod Marks
 pub mod Rendered
 pub mod Rows
 pub mod Ticks
-
 -- what the clauses name of the libraries below
 pub use Rattle.cbs_rate.specs.Rate
 pub use Rattle.cbsrun_events.specs.declared.seen.Event

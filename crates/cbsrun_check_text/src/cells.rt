@@ -1,10 +1,10 @@
 //! Cells of the tables. The only error of each call is out of memory.
 
-ghost use Rattle.std.specs.Prelude.{◌≡◌, IfOk, map, string_bytes};
+ghost use Rattle.std.specs.Prelude.{◌≡◌, IfOk, string_bytes};
 ghost use Rattle.cbsrun_check_text.specs.Cells.{is_marked, shown_text, cell_of};
 
 use crate::fractions::Share;
-use cbsrun_text::Cell;
+use cbsrun_text::{Cell, ToCell};
 use std::alloc::{AllocError, Global};
 
 /// What a cell shows.
@@ -50,23 +50,13 @@ impl Shown<'_> {
             _ => false,
         }
     }
+}
 
-    /// Returns the cell.
-    fn cell(self, alloc: Global) -> Result<Cell, AllocError>
-        ensures { IfOk result (λ cell. cell ≡ cell_of self.entry) }
-    {
+impl ToCell for Shown<'_> {
+    ghost shown = { cell_of };
+
+    fn to_cell(self, alloc: Global) -> Result<Cell, AllocError> {
         let text = self.text(alloc)?;
         Ok(Cell::new(text).marked_if(self.is_marked()))
     }
-}
-
-/// Returns a row of cells that show this.
-pub(crate) fn cells(alloc: Global, shown: &[Shown<'_>]) -> Result<Vec<Cell>, AllocError>
-    ensures { IfOk result (λ row. row.items ≡ map cell_of shown.now) }
-{
-    let mut row = Vec::with_capacity(alloc, shown.len())?;
-    for &one in shown {
-        row.push(one.cell(alloc)?)?;
-    }
-    Ok(row)
 }

@@ -4,18 +4,18 @@ ghost use Rattle.std.specs.Prelude.{◌≡◌, ◌<◌, ◌++◌, length, map, I
 ghost use Rattle.cbsrun_text.specs.Columns.{columns_text, rows_of};
 ghost use Rattle.cbsrun_check_text.specs.Servers.{server_row, row_at, servers_heading, total_row, servers_table};
 
-use crate::cells::{Shown, cells};
+use crate::cells::Shown;
 use crate::fractions::Share;
 use cbs_rate::{Plan, Reservation};
 use cbs_rules::{Mode, Modes};
-use cbsrun_text::{Cell, append_columns, mode_word, words};
+use cbsrun_text::{Cell, append_columns, cells, mode_word};
 use std::alloc::{AllocError, Global};
 
 /// Returns the heading of the table.
 fn heading(alloc: Global) -> Result<Vec<Cell>, AllocError>
     ensures { IfOk result (λ row. row.items ≡ servers_heading) }
 {
-    words(
+    cells(
         alloc,
         &[
             "SERVER",

@@ -6,13 +6,13 @@ ghost use Rattle.cbsrun_text.specs.Numbers.{number_text};
 ghost use Rattle.cbsrun_check_text.specs.Cells.{cell_of};
 ghost use Rattle.cbsrun_check_text.specs.Sources.{range_text, in_time_text, is_asking_too_much, source_row, row_of, sources_heading, sources_table, sources_text};
 
-use crate::cells::{Shown, cells};
+use crate::cells::Shown;
 use crate::fractions::Share;
 use cbs_rate::Reservation;
 use cbsrun_loads::Load;
 use cbsrun_simulate::{Range, SourceTerms};
 use cbsrun_sizing::{ServerLoad, is_within};
-use cbsrun_text::{Cell, append_columns, words};
+use cbsrun_text::{Cell, append_columns, cells};
 use std::alloc::{AllocError, Global};
 
 /// Returns what a cell shows of a range of numbers. A range of one number is shown as that number.
@@ -59,7 +59,7 @@ fn is_asking_too_much(rate: Reservation, terms: &SourceTerms) -> bool
 fn heading(alloc: Global) -> Result<Vec<Cell>, AllocError>
     ensures { IfOk result (λ row. row.items ≡ sources_heading) }
 {
-    words(
+    cells(
         alloc,
         &[
             "SOURCE OF",

@@ -10,7 +10,6 @@ pub mod ServingStops
 pub mod Statuses
 pub mod Stepped
 pub mod Verbs
-
 -- what the clauses name of the libraries below
 pub use Rattle.cbs_clients.specs.Houses
 pub use Rattle.cbsrun_lines.specs.Traces

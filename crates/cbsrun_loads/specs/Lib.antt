@@ -3,7 +3,6 @@ pub mod Servers
 pub mod Sources
 pub mod Spelling
 pub mod TopTables
-
 -- what the clauses name of the libraries below
 pub use Rattle.cbs_rate.specs.Limits
 pub use Rattle.cbs_rules.specs.Rules

@@ -1,10 +1,10 @@
 //! Cells of the tables.
 
-ghost use Rattle.std.specs.Prelude.{◌≡◌, ◌++◌, IfOk, OnOk, map, string_bytes};
+ghost use Rattle.std.specs.Prelude.{◌≡◌, IfOk, string_bytes};
 ghost use Rattle.cbsrun_report_text.specs.Cells.{is_marked, shown_text, cell_of};
 
 use crate::numbers::{Mean, Percent};
-use cbsrun_text::Cell;
+use cbsrun_text::{Cell, ToCell};
 use std::alloc::{AllocError, Global};
 
 /// What a cell shows.
@@ -52,31 +52,13 @@ impl Shown<'_> {
             _ => false,
         }
     }
+}
 
-    /// Returns the cell. The only error is out of memory.
-    fn cell(self, alloc: Global) -> Result<Cell, AllocError>
-        ensures { IfOk result (λ cell. cell ≡ cell_of self.entry) }
-    {
+impl ToCell for Shown<'_> {
+    ghost shown = { cell_of };
+
+    fn to_cell(self, alloc: Global) -> Result<Cell, AllocError> {
         let text = self.text(alloc)?;
         Ok(Cell::new(text).marked_if(self.is_marked()))
     }
-}
-
-/// Adds cells that show this to a row. The only error is out of memory.
-pub(crate) fn add(alloc: Global, row: &mut Vec<Cell>, shown: &[Shown<'_>]) -> Result<(), AllocError>
-    ensures { OnOk result (row.new.items ≡ row.old.items ++ map cell_of shown.now) }
-{
-    for &one in shown {
-        row.push(one.cell(alloc)?)?;
-    }
-    Ok(())
-}
-
-/// Returns a row of cells that show this. The only error is out of memory.
-pub(crate) fn cells(alloc: Global, shown: &[Shown<'_>]) -> Result<Vec<Cell>, AllocError>
-    ensures { IfOk result (λ row. row.items ≡ map cell_of shown.now) }
-{
-    let mut row = Vec::with_capacity(alloc, shown.len())?;
-    add(alloc, &mut row, shown)?;
-    Ok(row)
 }

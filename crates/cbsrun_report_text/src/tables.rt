@@ -6,11 +6,11 @@ ghost use Rattle.cbsrun_text.specs.Numbers.{number_text};
 ghost use Rattle.cbsrun_report_text.specs.Cells.{cell_of};
 ghost use Rattle.cbsrun_report_text.specs.Tables.{late_cell, jobs_row, jobs_total, jobs_table, ticks_row, ticks_total, ticks_table, within_text, rank_cells, response_row, response_table, early_row, early_table, charges_row, charges_total, charges_table};
 
-use crate::cells::{Shown, add, cells};
+use crate::cells::Shown;
 use crate::numbers::{Mean, Percent};
 use crate::report::{RunReport, ServerReport};
 use crate::totals::Total;
-use cbsrun_text::{Cell, words};
+use cbsrun_text::{Cell, add_cells, cells};
 use std::alloc::{AllocError, Global};
 
 /// Returns what a cell shows of the late jobs of a server: their number, or `-` if no time is wanted.
@@ -70,7 +70,7 @@ pub(crate) fn jobs_table(alloc: Global, report: &RunReport) -> Result<Vec<Vec<Ce
     requires { length report.now.servers.items ≤ 64 }
     ensures { IfOk result (λ table. rows_of table.items ≡ jobs_table report.now) }
 {
-    let heading = words(
+    let heading = cells(
         alloc,
         &[
             "JOBS",
@@ -143,7 +143,7 @@ pub(crate) fn ticks_table(alloc: Global, report: &RunReport) -> Result<Vec<Vec<C
     requires { length report.now.servers.items ≤ 64 }
     ensures { IfOk result (λ table. rows_of table.items ≡ ticks_table report.now) }
 {
-    let heading = words(
+    let heading = cells(
         alloc,
         &[
             "TICKS",
@@ -186,13 +186,13 @@ fn add_ranks(alloc: Global, row: &mut Vec<Cell>, server: &ServerReport) -> Resul
 {
     let figures = &server.figures;
     let Some(ranks) = figures.responses else {
-        return add(alloc, row, &[Shown::Word("-"); 6]);
+        return add_cells(alloc, row, &[Shown::Word("-"); 6]);
     };
     let mean = Mean {
         total: figures.response_total,
         count: figures.finished,
     };
-    add(
+    add_cells(
         alloc,
         row,
         &[
@@ -212,7 +212,7 @@ fn response_row(alloc: Global, server: &ServerReport) -> Result<Vec<Cell>, Alloc
 {
     let mut row = cells(alloc, &[Shown::Word(&server.name)])?;
     add_ranks(alloc, &mut row, server)?;
-    add(alloc, &mut row, &[within_shown(server)])?;
+    add_cells(alloc, &mut row, &[within_shown(server)])?;
     Ok(row)
 }
 
@@ -224,7 +224,7 @@ pub(crate) fn response_table(
 ) -> Result<Vec<Vec<Cell>>, AllocError>
     ensures { IfOk result (λ table. rows_of table.items ≡ response_table servers.now) }
 {
-    let heading = words(
+    let heading = cells(
         alloc,
         &[
             "RESPONSE", "least", "mean", "median", "95 %", "99 %", "greatest", "within",
@@ -273,7 +273,7 @@ pub(crate) fn early_table(
 ) -> Result<Vec<Vec<Cell>>, AllocError>
     ensures { IfOk result (λ table. rows_of table.items ≡ early_table servers.now) }
 {
-    let heading = words(alloc, &["EARLY", "least", "mean"])?;
+    let heading = cells(alloc, &["EARLY", "least", "mean"])?;
     let mut table = vec![in alloc; heading]?;
     for server in servers {
         table.push(early_row(alloc, server)?)?;
@@ -313,7 +313,7 @@ pub(crate) fn charges_table(
     requires { length servers.now ≤ 64 }
     ensures { IfOk result (λ table. rows_of table.items ≡ charges_table servers.now) }
 {
-    let heading = words(alloc, &["CHARGES", "ticks", "greatest"])?;
+    let heading = cells(alloc, &["CHARGES", "ticks", "greatest"])?;
     let mut table = vec![in alloc; heading]?;
     for server in servers {
         table.push(charges_row(alloc, server)?)?;

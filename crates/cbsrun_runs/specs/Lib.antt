@@ -5,7 +5,6 @@ pub mod Tasks
 pub mod FileLaws
 pub mod Showing
 pub mod Kept
-
 -- what the clauses name of the libraries below
 pub use Rattle.cbs_core.specs.Agreement
 pub use Rattle.cbs_job.specs.FileJobs

@@ -11,7 +11,6 @@ pub mod Shown
 pub mod Simulating
 pub mod SourceOrder
 pub mod Turns
-
 -- what the clauses name of the libraries below
 pub use Rattle.cbs_core.specs.Agreement
 pub use Rattle.cbs_rate.specs.Limits

@@ -5,6 +5,5 @@ pub mod ServerLoads
 pub mod Kept
 pub mod Lateness
 pub mod Shares
-
 -- what the clauses name of the libraries below
 pub use Rattle.cbs_rate.specs.Plan

@@ -5,7 +5,7 @@ use Rattle.std.proofs.lemmas.List.{append-nil, length-take-le, take_more}
 use Rattle.cbsrun_chart.specs.declared.picture.Drawn.{Drawn}
 use Rattle.cbsrun_window.specs.declared.window.Window.{Window}
 use Rattle.cbsrun_svg_shapes.specs.Axes.{AxisSeen}
-use Rattle.cbsrun_svg_shapes.specs.Layouts.{LayoutSeen}
+use Rattle.cbsrun_svg_shapes.specs.declared.layout.Layout.{Layout}
 use Rattle.cbsrun_svg.specs.Pictures.{left_of, rows_text, server_row, words_width}
 
 -- room for one server more
@@ -22,7 +22,7 @@ pub left_next : (n : ℕ) (ds : List Drawn) (i : ℕ) (d : Drawn) → i < length
 left_next n ds i d lt = ap (left_of n) (take_more ds i d lt) ∙ left_push n (take i ds) (get_or ds i d)
 
 -- one row more, below the others
-rows_push : (a : AxisSeen) (l : LayoutSeen) (w : Window) (top : ℕ) (ds : List Drawn) (d : Drawn)
+rows_push : (a : AxisSeen) (l : Layout) (w : Window) (top : ℕ) (ds : List Drawn) (d : Drawn)
     → rows_text a l w top (ds ++ d ∷ []) ≡ rows_text a l w top ds ++ server_row a l w (top + length ds * l.row) d
 unfolding rows_text
 rows_push a l w top [] d =
@@ -34,7 +34,7 @@ rows_push a l w top (x ∷ ds) d =
     ∙ ap (λ t. (server_row a l w top x ++ rows_text a l w (top + l.row) ds) ++ server_row a l w t d) same)
 
 -- .. the next one of a list
-pub rows_next : (a : AxisSeen) (l : LayoutSeen) (w : Window) (top : ℕ) (ds : List Drawn) (i : ℕ) (d : Drawn) → i < length ds
+pub rows_next : (a : AxisSeen) (l : Layout) (w : Window) (top : ℕ) (ds : List Drawn) (i : ℕ) (d : Drawn) → i < length ds
     → rows_text a l w top (take (i + 1) ds) ≡ rows_text a l w top (take i ds) ++ server_row a l w (top + i * l.row) (get_or ds i d)
 rows_next a l w top ds i d lt =
     let count : length (take i ds) ≡ i = length-take-le i ds (omega arith) in

@@ -9,7 +9,8 @@ use Rattle.cbsrun_svg_shapes.specs.Axes.{AxisSeen, axis_of, right_of}
 use Rattle.cbsrun_svg_shapes.specs.Columns.{cell_counts}
 use Rattle.cbsrun_svg_shapes.specs.Escapes.{escaped}
 use Rattle.cbsrun_svg.specs.Heads.{heading_text, sentence_text, summary_text}
-use Rattle.cbsrun_svg_shapes.specs.Layouts.{LayoutSeen, layout_of}
+use Rattle.cbsrun_svg_shapes.specs.Layouts.{layout_of}
+use Rattle.cbsrun_svg_shapes.specs.declared.layout.Layout.{Layout}
 use Rattle.cbsrun_svg.specs.Rows.{layer_text, row_text, short_terms_text, terms_text}
 use Rattle.cbsrun_svg.specs.Scales.{numbers_text, scale_text, ticks_numbered, uprights_text}
 use Rattle.cbsrun_svg_shapes.specs.Shapes.{label_text, path_text, stretch_text}
@@ -31,10 +32,10 @@ left_of servers (d ∷ ds) = max (words_width servers d) (left_of servers ds)
 abbrev pub axis_for : Picture → AxisSeen
 axis_for p = axis_of p.window (left_of (length p.servers.items) p.servers.items)
 
-abbrev pub layout_for : Picture → LayoutSeen
+abbrev pub layout_for : Picture → Layout
 layout_for p = layout_of (length p.servers.items) (axis_for p)
 
-abbrev pub scale_of : ℕ → LayoutSeen → ℕ
+abbrev pub scale_of : ℕ → Layout → ℕ
 scale_of servers l = 12400 + servers * l.row
 
 -- the opening tag of the document, by the left edge of the axis and the line of the scale
@@ -70,35 +71,35 @@ words_text left scale w heading summary servers =
     opening_text left scale ++ title_text heading ++ description_text w summary servers ++ STYLE.now ++ page_text left scale
 
 -- the legend of the course of a budget, if budgets are drawn
-unfoldable pub budget_legend : LayoutSeen → List ℕ
+unfoldable pub budget_legend : Layout → List ℕ
 budget_legend l = if l.budgets then BUDGET_LEGEND.now else []
 
 -- the legend of the shapes that are drawn tick by tick
-unfoldable pub fine_legend : LayoutSeen → List ℕ
+unfoldable pub fine_legend : Layout → List ℕ
 fine_legend l = LEGEND.now ++ budget_legend l
 
 -- the legend of the shapes, drawn in columns or tick by tick
-abbrev pub legend_text : LayoutSeen → List ℕ
+abbrev pub legend_text : Layout → List ℕ
 legend_text l = if l.dense then COLUMN_LEGEND.now else fine_legend l
 
 -- the heading, the summary and the legend
-unfoldable pub top_text : LayoutSeen → List ℕ → List ℕ → List ℕ
+unfoldable pub top_text : Layout → List ℕ → List ℕ → List ℕ
 top_text l heading summary =
     label_text (codes "h") 1600 3000 heading ++ label_text (codes "m") 1600 5000 summary ++ legend_text l
 
 -- faint lines through all rows at the numbered ticks, and the heading of the units. If there are many rows, the numbers
 -- stand once more above them
-unfoldable pub grid_text : AxisSeen → LayoutSeen → ℕ → List ℕ → List ℕ
+unfoldable pub grid_text : AxisSeen → Layout → ℕ → List ℕ → List ℕ
 grid_text a l scale ts =
     path_text (codes "grid") (uprights_text a 10500 scale ts) ++ label_text (codes "m r") (right_of a + 5700) 10200 (codes "units")
     ++ (if l.compact then numbers_text a 10200 ts else [])
 
 -- the row of a server
-abbrev pub server_row : AxisSeen → LayoutSeen → Window → ℕ → Drawn → List ℕ
+abbrev pub server_row : AxisSeen → Layout → Window → ℕ → Drawn → List ℕ
 server_row a l w top d = row_text a l w top (escaped (string_bytes d.name)) d.mode d
 
 -- all rows, one below another
-unfoldable pub rows_text : AxisSeen → LayoutSeen → Window → ℕ → List Drawn → List ℕ
+unfoldable pub rows_text : AxisSeen → Layout → Window → ℕ → List Drawn → List ℕ
 rows_text a l w top [] = []
 rows_text a l w top (d ∷ ds) = server_row a l w top d ++ rows_text a l w (top + l.row) ds
 
@@ -107,22 +108,22 @@ unfoldable pub idle_boxes : AxisSeen → ℕ → List Stretch → List ℕ
 idle_boxes a scale ps = path_text (codes "idle") (flat_map (stretch_text a (scale - 900) 600) ps)
 
 -- the ticks in which nobody runs, drawn in columns if there are many ticks
-abbrev pub idle_shape : AxisSeen → LayoutSeen → ℕ → List Stretch → List ℕ
+abbrev pub idle_shape : AxisSeen → Layout → ℕ → List Stretch → List ℕ
 idle_shape a l scale ps = if l.dense then layer_text a (scale - 300) 600 Idle (codes "idle") (cell_counts a ps) else idle_boxes a scale ps
 
 -- the line of the ticks in which nobody runs
-unfoldable pub idle_text : AxisSeen → LayoutSeen → Window → ℕ → List Stretch → List ℕ
+unfoldable pub idle_text : AxisSeen → Layout → Window → ℕ → List Stretch → List ℕ
 idle_text a l w scale ps =
     label_text (codes "m") 1600 (scale - 400) (codes "idle")
     ++ label_text (codes "u") (right_of a + 5700) (scale - 400) (decimal (counts_of w.from w.to ps).idle) ++ idle_shape a l scale ps
 
 -- all rows, with the grid, idle line and scale around them
-unfoldable pub body_text : AxisSeen → LayoutSeen → Window → ℕ → List ℕ → Picture → List ℕ
+unfoldable pub body_text : AxisSeen → Layout → Window → ℕ → List ℕ → Picture → List ℕ
 body_text a l w scale ts p =
     grid_text a l scale ts ++ rows_text a l w 11000 p.servers.items ++ idle_text a l w scale p.idle.items ++ scale_text a scale ts ++ codes "</svg>\n"
 
 -- the text of a picture on an axis
-unfoldable pub drawn_text : AxisSeen → LayoutSeen → List ℕ → List ℕ → Picture → List ℕ
+unfoldable pub drawn_text : AxisSeen → Layout → List ℕ → List ℕ → Picture → List ℕ
 drawn_text a l heading summary p =
     words_text a.left (scale_of (length p.servers.items) l) p.window heading summary p.servers.items ++ top_text l heading summary
     ++ body_text a l p.window (scale_of (length p.servers.items) l) (ticks_numbered a p.window) p

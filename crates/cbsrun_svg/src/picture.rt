@@ -162,7 +162,7 @@ fn append_budget_legend(text: &mut String, layout: &Layout) -> Result<(), AllocE
     ensures { OnOk result (string_bytes text.new ≡ string_bytes text.old
         ++ budget_legend layout.now) }
 {
-    if !layout.has_budgets() {
+    if !layout.budgets {
         return Ok(());
     }
     text.push_str(BUDGET_LEGEND)
@@ -183,7 +183,7 @@ fn append_legend(text: &mut String, layout: &Layout) -> Result<(), AllocError>
     ensures { OnOk result (string_bytes text.new ≡ string_bytes text.old
         ++ legend_text layout.now) }
 {
-    if layout.is_dense() {
+    if layout.dense {
         return text.push_str(COLUMN_LEGEND);
     }
     append_fine_legend(text, layout)
@@ -223,7 +223,7 @@ fn append_grid(
     append_uprights(&mut shape, axis, 10_500, scale, ticks)?;
     append_path(text, "grid", &shape)?;
     append_label(text, "m r", axis.right() + 5700, 10_200, "units")?;
-    if layout.is_compact() {
+    if layout.compact {
         append_numbers(alloc, text, axis, 10_200, ticks)?;
     }
     Ok(())
@@ -268,7 +268,7 @@ fn append_rows(
     let mut top = 11_000u64;
     for server in servers {
         append_server_row(alloc, text, axis, layout, window, top, server)?;
-        top += layout.row();
+        top += layout.row;
     }
     Ok(())
 }
@@ -304,7 +304,7 @@ fn append_idle_shape(
     ensures { OnOk result (string_bytes text.new ≡ string_bytes text.old
         ++ idle_shape axis.now layout.now scale idle.now) }
 {
-    if !layout.is_dense() {
+    if !layout.dense {
         return append_idle_boxes(alloc, text, axis, scale, idle);
     }
     let counts = cell_counts(alloc, axis, idle)?;
@@ -373,7 +373,7 @@ fn scale_of(servers: usize, layout: &Layout) -> u64
     ensures value { result ≡ scale_of servers layout.now }
     ensures small { result ≤ 1000000 }
 {
-    12_400 + servers as u64 * layout.row()
+    12_400 + servers as u64 * layout.row
 }
 
 /// Returns the text of a picture on an axis.

@@ -26,8 +26,8 @@ pub(crate) fn units_of(window: Window, chart: &ServerChart) -> u64
 fn text_line(layout: &Layout) -> u64
     ensures { result ≡ text_line layout.now }
 {
-    let bottom = layout.bar() + layout.height();
-    if layout.is_compact() {
+    let bottom = layout.bar + layout.height;
+    if layout.compact {
         return bottom - 30;
     }
     bottom - 400
@@ -70,7 +70,7 @@ fn append_names(
         ++ names_text place.now.axis place.now.layout place.now.name.now reservation
         place.now.mode) }
 {
-    if place.layout.is_compact() {
+    if place.layout.compact {
         let y = text_line(&place.layout);
         append_label(text, "k", 1600, y, place.name)?;
         let terms = short_terms_text(alloc, reservation, place.mode)?;
@@ -110,9 +110,9 @@ fn append_line(text: &mut String, axis: &Axis, layout: &Layout) -> Result<(), Al
     ensures { OnOk result (string_bytes text.new ≡ string_bytes text.old
         ++ line_text axis.now layout.now) }
 {
-    let class = if layout.is_compact() { "line" } else { "axis" };
+    let class = if layout.compact { "line" } else { "axis" };
     let left = axis.left();
-    let line = layout.line();
+    let line = layout.line;
     let right = axis.right();
     writeln!(
         text,
@@ -259,8 +259,8 @@ fn append_charged(
     if Counts::of(&chart.spans, window.from, window.to).charged == 0 {
         return Ok(());
     }
-    let height = place.layout.height();
-    let base = place.layout.bar() + height;
+    let height = place.layout.height;
+    let base = place.layout.bar + height;
     append_layer(
         alloc,
         text,
@@ -298,8 +298,8 @@ fn append_bars(
         chart.now counts.now) }
 {
     let axis = &place.axis;
-    let height = place.layout.height();
-    let base = place.layout.bar() + height;
+    let height = place.layout.height;
+    let base = place.layout.bar + height;
     append_layer(
         alloc,
         text,
@@ -370,18 +370,18 @@ fn append_dense(
         alloc,
         text,
         axis,
-        layout.bar() - 100,
+        layout.bar - 100,
         300,
         Layer::Refused,
         &chart.refused,
     )?;
-    let base = layout.bar() + layout.height() + layout.lane();
+    let base = layout.bar + layout.height + layout.lane;
     append_band(
         alloc,
         text,
         axis,
         base,
-        layout.lane(),
+        layout.lane,
         Layer::Late,
         &chart.late,
     )
@@ -399,7 +399,7 @@ fn append_inside(
         ++ inside_text place.now.axis place.now.layout window place.now.name.now place.now.mode
         drawn.now) }
 {
-    if place.layout.is_dense() {
+    if place.layout.dense {
         return append_dense(alloc, text, place, window, &drawn.chart);
     }
     append_fine(alloc, text, place, drawn)

@@ -4,7 +4,7 @@ use Rattle.std.specs.List.{range_with_len}
 use Rattle.cbsrun_chart.specs.declared.course.Corner.{Corner}
 use Rattle.cbsrun_window.specs.declared.stretch.Stretch.{Stretch}
 use Rattle.cbsrun_svg_shapes.specs.Axes.{AxisSeen, right_of, x_at}
-use Rattle.cbsrun_svg_shapes.specs.Layouts.{LayoutSeen}
+use Rattle.cbsrun_svg_shapes.specs.declared.layout.Layout.{Layout}
 use Rattle.cbsrun_svg_shapes.specs.Shapes.{arrow_down_text, arrow_up_text, cross_text, label_text, lines_text, upright_text}
 
 -- the width of the lines of marks, half the width of an arrow's head, and its height
@@ -18,39 +18,39 @@ abbrev pub high_of : AxisSeen → ℕ
 high_of a = half_of a * 4 / 3
 
 -- an arrow that stands on the bar at the tick at which a job comes
-abbrev pub arrival_text : AxisSeen → LayoutSeen → ℕ → List ℕ
+abbrev pub arrival_text : AxisSeen → Layout → ℕ → List ℕ
 arrival_text a l t = arrow_up_text (x_at a t) l.bar l.top (half_of a) (high_of a)
 
-unfoldable pub arrivals_path : AxisSeen → LayoutSeen → List ℕ → List ℕ
+unfoldable pub arrivals_path : AxisSeen → Layout → List ℕ → List ℕ
 arrivals_path a l ts = lines_text (codes "mark") (stroke_of a) (flat_map (arrival_text a l) ts)
 
 -- an arrow that points down from the line at a deadline
-abbrev pub deadline_text : AxisSeen → LayoutSeen → ℕ → List ℕ
+abbrev pub deadline_text : AxisSeen → Layout → ℕ → List ℕ
 deadline_text a l t = arrow_down_text (x_at a t) l.line l.tip (half_of a) (high_of a)
 
-unfoldable pub deadlines_path : AxisSeen → LayoutSeen → List ℕ → List ℕ
+unfoldable pub deadlines_path : AxisSeen → Layout → List ℕ → List ℕ
 deadlines_path a l ts = lines_text (codes "mark") (stroke_of a) (flat_map (deadline_text a l) ts)
 
 -- how far the line of a finished job rises above the bar
-abbrev pub rise_of : LayoutSeen → ℕ
+abbrev pub rise_of : Layout → ℕ
 rise_of l = if l.compact then 150 else 400
 
 -- a line across the end of the bar, at the tick at which a job is finished
-abbrev pub completion_text : AxisSeen → LayoutSeen → ℕ → List ℕ
+abbrev pub completion_text : AxisSeen → Layout → ℕ → List ℕ
 completion_text a l t = upright_text (x_at a t) (l.bar - rise_of l) (l.bar + l.height)
 
-unfoldable pub completions_path : AxisSeen → LayoutSeen → List ℕ → List ℕ
+unfoldable pub completions_path : AxisSeen → Layout → List ℕ → List ℕ
 completions_path a l ts = lines_text (codes "mark") (stroke_of a * 3 / 2) (flat_map (completion_text a l) ts)
 
 -- a cross at a tick in which a release is refused
-abbrev pub refusal_text : AxisSeen → LayoutSeen → ℕ → List ℕ
+abbrev pub refusal_text : AxisSeen → Layout → ℕ → List ℕ
 refusal_text a l t = cross_text (x_at a t) l.bar l.top
 
 -- a cross at each tick of a stretch
-unfoldable pub crosses_text : AxisSeen → LayoutSeen → Stretch → List ℕ
+unfoldable pub crosses_text : AxisSeen → Layout → Stretch → List ℕ
 crosses_text a l p = flat_map (λ k. refusal_text a l (p.from + k)) (range_with_len 0 (p.to - p.from))
 
-unfoldable pub refused_path : AxisSeen → LayoutSeen → List Stretch → List ℕ
+unfoldable pub refused_path : AxisSeen → Layout → List Stretch → List ℕ
 refused_path a l ps = lines_text (codes "no") 160 (flat_map (crosses_text a l) ps)
 
 -- the height at which a budget is drawn, if a whole budget is `whole`
@@ -72,6 +72,6 @@ course_path a whole opening corners =
     ++ corners_text a whole corners ++ codes "H" ++ decimal (right_of a) ++ codes "V6300z\"/>\n"
 
 -- the course of a budget, labelled with the whole budget, if budgets are drawn
-unfoldable pub budget_text : AxisSeen → LayoutSeen → ℕ → ℕ → List Corner → List ℕ
+unfoldable pub budget_text : AxisSeen → Layout → ℕ → ℕ → List Corner → List ℕ
 budget_text a l whole opening corners =
     if l.budgets then course_path a whole opening corners ++ label_text (codes "m r") (a.left - 800) 5900 (codes "c &#8804; " ++ decimal whole) else []

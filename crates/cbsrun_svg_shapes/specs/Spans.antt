@@ -9,7 +9,7 @@ use Rattle.cbsrun_window.specs.declared.stretch.Stretch.{Stretch}
 use Rattle.cbs_rules.specs.declared.mode.Mode.{Mode}
 use Rattle.cbs_rules.specs.declared.mode.Mode.TheVariants as mode
 use Rattle.cbsrun_svg_shapes.specs.Axes.{AxisSeen, x_at}
-use Rattle.cbsrun_svg_shapes.specs.Layouts.{LayoutSeen}
+use Rattle.cbsrun_svg_shapes.specs.declared.layout.Layout.{Layout}
 use Rattle.cbsrun_svg_shapes.specs.Shapes.{box_text, label_text, path_text, stretch_text, titled_text, width_of}
 
 -- ticks of this kind are pale: the server has a job, and does not run
@@ -18,11 +18,11 @@ is_pale kind.Waits = true
 is_pale kind.Held = true
 is_pale _ = false
 
-abbrev pub pale_text : AxisSeen → LayoutSeen → Stretch → List ℕ
+abbrev pub pale_text : AxisSeen → Layout → Stretch → List ℕ
 pale_text a l p = if is_pale p.kind then stretch_text a l.bar l.height p else []
 
 -- all pale ticks
-unfoldable pub pale_path : AxisSeen → LayoutSeen → List Stretch → List ℕ
+unfoldable pub pale_path : AxisSeen → Layout → List Stretch → List ℕ
 pale_path a l ps = path_text (codes "wait") (flat_map (pale_text a l) ps)
 
 -- the title of a stretch: what goes on in it, and in which ticks
@@ -56,23 +56,23 @@ bar_class mode.Throttled true = codes "t0"
 bar_class mode.Throttled false = codes "t1"
 
 -- the number of a job in its bar, if the bar is wide enough: 620 hundredths of a pixel for each digit, and 300
-unfoldable pub number_text : AxisSeen → LayoutSeen → ℕ → Stretch → List ℕ
+unfoldable pub number_text : AxisSeen → Layout → ℕ → Stretch → List ℕ
 number_text a l j p =
     if not l.compact && leb (length (decimal j)) ((width_of a p - 300) / 620)
     then label_text (codes "j") (x_at a p.from + width_of a p / 2) (l.bar + 1260) (decimal j)
     else []
 
 -- a bar: the ticks of neighbouring units of one job
-unfoldable pub bar_text : AxisSeen → LayoutSeen → Mode → List ℕ → List ChartJob → ℕ → Stretch → List ℕ
+unfoldable pub bar_text : AxisSeen → Layout → Mode → List ℕ → List ChartJob → ℕ → Stretch → List ℕ
 bar_text a l mode name jobs j p =
     titled_text (bar_class mode (eqb (j % 2) 0)) (stretch_text a l.bar l.height p) (bar_title name j p jobs) ++ number_text a l j p
 
 -- ticks that are no bar, with what goes on in them as a title
-unfoldable pub other_text : AxisSeen → LayoutSeen → List ℕ → List ℕ → List ℕ → Stretch → List ℕ
+unfoldable pub other_text : AxisSeen → Layout → List ℕ → List ℕ → List ℕ → Stretch → List ℕ
 other_text a l class name what p = titled_text class (stretch_text a l.bar l.height p) (stretch_title name what p)
 
 -- a stretch of ticks in which a server does something
-abbrev pub span_text : AxisSeen → LayoutSeen → Mode → List ℕ → List ChartJob → Kind → Stretch → List ℕ
+abbrev pub span_text : AxisSeen → Layout → Mode → List ℕ → List ChartJob → Kind → Stretch → List ℕ
 span_text a l mode name jobs (kind.Runs j) p = bar_text a l mode name jobs j p
 span_text a l mode name jobs kind.Charged p = other_text a l (codes "charged") name (codes " charged") p
 span_text a l mode name jobs kind.Held p = other_text a l (codes "hatch") name (codes " throttled") p
@@ -80,6 +80,6 @@ span_text a l mode name jobs kind.Resting p = other_text a l (codes "hatch") nam
 span_text a l mode name jobs _ p = []
 
 -- ticks in which a job is late, drawn at least a pixel and a half wide
-unfoldable pub late_text : AxisSeen → LayoutSeen → List ℕ → Stretch → List ℕ
+unfoldable pub late_text : AxisSeen → Layout → List ℕ → Stretch → List ℕ
 late_text a l name p =
     titled_text (codes "late") (box_text (x_at a p.from) (l.bar + l.height) (max (width_of a p) 150) l.lane) (stretch_title name (codes " late") p)

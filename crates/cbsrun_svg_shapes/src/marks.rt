@@ -48,8 +48,8 @@ fn append_arrival(
     append_arrow_up(
         shape,
         axis.x(tick),
-        layout.bar(),
-        layout.top(),
+        layout.bar,
+        layout.top,
         half_of(axis),
         high_of(axis),
     )
@@ -87,8 +87,8 @@ fn append_deadline(
     append_arrow_down(
         shape,
         axis.x(tick),
-        layout.line(),
-        layout.tip(),
+        layout.line,
+        layout.tip,
         half_of(axis),
         high_of(axis),
     )
@@ -118,7 +118,7 @@ fn rise_of(layout: &Layout) -> u64
     ensures value { result ≡ rise_of layout.now }
     ensures small { result ≤ 400 }
 {
-    if layout.is_compact() { 150 } else { 400 }
+    if layout.compact { 150 } else { 400 }
 }
 
 /// Appends a line across the end of the bar, at the tick at which a job is finished.
@@ -134,8 +134,8 @@ fn append_completion(
     append_upright(
         shape,
         axis.x(tick),
-        layout.bar() - rise_of(layout),
-        layout.bar() + layout.height(),
+        layout.bar - rise_of(layout),
+        layout.bar + layout.height,
     )
 }
 
@@ -168,7 +168,7 @@ fn append_refusal(
     ensures { OnOk result (string_bytes shape.new ≡ string_bytes shape.old
         ++ refusal_text axis.now layout.now tick) }
 {
-    append_cross(shape, axis.x(tick), layout.bar(), layout.top())
+    append_cross(shape, axis.x(tick), layout.bar, layout.top)
 }
 
 /// Appends a cross at each tick of a stretch in which releases are refused.
@@ -287,7 +287,7 @@ pub fn append_budget(
     ensures { OnOk result (string_bytes text.new ≡ string_bytes text.old
         ++ budget_text axis.now layout.now whole opening corners.now) }
 {
-    if !layout.has_budgets() {
+    if !layout.budgets {
         return Ok(());
     }
     append_course(text, axis, whole, opening, corners)?;

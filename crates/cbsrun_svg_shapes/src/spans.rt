@@ -49,7 +49,7 @@ fn append_if_pale(
         ++ pale_text axis.now layout.now span.now) }
 {
     if is_pale(span.kind) {
-        append_stretch(shape, axis, layout.bar(), layout.height(), span)?;
+        append_stretch(shape, axis, layout.bar, layout.height, span)?;
     }
     Ok(())
 }
@@ -167,7 +167,7 @@ fn bar_shape(
         ≡ stretch_text axis.now layout.now.bar layout.now.height span.now) }
 {
     let mut shape = String::new(alloc);
-    append_stretch(&mut shape, axis, layout.bar(), layout.height(), span)?;
+    append_stretch(&mut shape, axis, layout.bar, layout.height, span)?;
     Ok(shape)
 }
 
@@ -186,14 +186,14 @@ fn append_number(
 {
     let label = number.to_string(alloc)?;
     let width = width_of(axis, span);
-    if layout.is_compact() || width.saturating_sub(300) / 620 < label.len() as u64 {
+    if layout.compact || width.saturating_sub(300) / 620 < label.len() as u64 {
         return Ok(());
     }
     append_label(
         text,
         "j",
         axis.x(span.from) + width / 2,
-        layout.bar() + 1260,
+        layout.bar + 1260,
         &label,
     )
 }
@@ -283,9 +283,9 @@ pub fn append_late(
     append_box(
         &mut shape,
         axis.x(late.from),
-        layout.bar() + layout.height(),
+        layout.bar + layout.height,
         width,
-        layout.lane(),
+        layout.lane,
     )?;
     let title = stretch_title(alloc, place.name, " late", late)?;
     append_titled(text, "late", &shape, &title)

@@ -5,7 +5,6 @@ pub mod Spelling
 pub mod Streams
 pub mod TaskFiles
 pub mod TopTables
-
 -- what the clauses name of the libraries below
 pub use Rattle.cbs_rate.specs.Limits
 pub use Rattle.cbsrun_tables.specs.Bounds

@@ -1,9 +1,7 @@
 //! Cells of a table.
 
-ghost use Rattle.std.specs.Prelude.{◌≡◌, false, map, string_bytes, IfOk};
-ghost use Rattle.cbsrun_text.specs.Columns.{plain};
+ghost use Rattle.std.specs.Prelude.{◌≡◌, false, string_bytes};
 
-use std::alloc::{AllocError, Global};
 use std::marker::Model;
 
 /// A cell of a table. It may be marked, so that a reader looks at it.
@@ -56,15 +54,4 @@ impl Cell {
     {
         self.marked
     }
-}
-
-/// Returns a row of cells with these words, none of them marked. The only error is out of memory.
-pub fn words(alloc: Global, words: &[&str]) -> Result<Vec<Cell>, AllocError>
-    ensures { IfOk result (λ row. row.items ≡ map (λ word. plain word.now) words.now) }
-{
-    let mut row = Vec::with_capacity(alloc, words.len())?;
-    for &word in words {
-        row.push(Cell::new(String::from_str(alloc, word)?))?;
-    }
-    Ok(row)
 }

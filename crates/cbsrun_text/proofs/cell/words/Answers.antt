@@ -1,9 +1,0 @@
-use Rattle.std.proofs.Common.{arith}
-use Rattle.std.proofs.lemmas.Grind.{common_steps}
-use Rattle.cbsrun_text.proofs.cell.words.Goals as goal
-
-pub returns : goal.returns
-returns c = grind (arith, common_steps)
-
-pub loop-word-preserved : goal.loop-word-preserved
-loop-word-preserved c = grind (arith, common_steps)
