@@ -20,10 +20,6 @@ one_or_none : (b : Bool) → cond b 1 0 ≤ 0 → b ≡ false
 one_or_none true l = absurd (omega (arith, l))
 one_or_none false l = refl
 
--- if no element of a list is counted by a test, no element passes it
-none_pass : (p : Face → Bool) (fs : List Face) (s : ℕ) → s < length fs → count_by p fs ≡ 0 → p (get_or fs s no_face) ≡ false
-none_pass p fs s lt e = one_or_none (p (get_or fs s no_face)) (let l = get_or-le-sum_by (λ (f : Face). cond (p f) 1 0) fs s no_face lt in omega (arith, l, e))
-
 -- if one is counted, some element passes: the first, or one of the rest
 first_passes : (p : Face → Bool) (f : Face) (fs : List Face) (b : Bool) → p f ≡ b
     → (0 < count_by p fs → (s : ℕ) × (s < length fs) × (p (get_or fs s no_face) ≡ true))

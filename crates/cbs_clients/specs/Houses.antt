@@ -132,6 +132,11 @@ module _ {W A : Type 0} {g : Ghosts W} where
     pub seat : seat_at new s ≡ record (seat_at old s) { results = []; handed = result_count old s }
     pub others : (t : ℕ) → t ≢ s → seat_at new t ≡ seat_at old t
 
+  -- why the results of server s are not handed out: there is no such server, or memory was refused
+  abbrev pub KeepsBack : House W A g → ℕ → HouseError → Type 0
+  KeepsBack h s e = ((e ≡ house_error.NoSuchServer) × (length (core_of h).faces ≤ s))
+      ⊎ ((e ≡ house_error.OutOfMemory) × (s < length (core_of h).faces))
+
 -- the result of a read of a server, by the core's result, which refuses only if there is no such server
 abbrev pub told_answer : {T : Type 0} → Result T CoreError → Result T HouseError
 told_answer (Ok told) = Ok told

@@ -7,10 +7,10 @@ use cbs_results::CollectError;
 use std::alloc::Allocator;
 
 impl<W: Work, A: Allocator> House<W, A> {
-    ghost use Rattle.std.specs.Prelude.{◌≡◌, ◌⊎◌, ◌≤◌, ◌<◌, drop, length, map, IfOk, IfErr, OnOk, OnErr};
+    ghost use Rattle.std.specs.Prelude.{◌≡◌, ◌≤◌, ◌<◌, drop, length, map, IfOk, IfErr, OnOk, OnErr};
     ghost use mathlib.Core.List.{IsPrefix};
     ghost use Rattle.cbs_job.specs.Work.{whole};
-    ghost use Rattle.cbs_clients.specs.Houses.{core_of, rings_of, received, results_of, handed_of, SameHouse, HandsOutResults};
+    ghost use Rattle.cbs_clients.specs.Houses.{core_of, rings_of, received, results_of, handed_of, SameHouse, HandsOutResults, KeepsBack};
     ghost use Rattle.cbs_clients.specs.Messages.{jobs_among};
     ghost use Rattle.cbs_clients.specs.HouseInvariant.{KeepsServer};
     ghost use Rattle.cbs_core.specs.Held.{held_at};
@@ -56,9 +56,7 @@ impl<W: Work, A: Allocator> House<W, A> {
         ensures rings { rings_of self.new ≡ rings_of self.old }
         ensures unchanged { OnErr result (SameHouse self.old self.new) }
         ensures known { OnOk result (server < length (core_of self.old).faces) }
-        ensures refused { IfErr result (λ error. ((error ≡ HouseError.NoSuchServer)
-            × (length (core_of self.old).faces ≤ server))
-            ⊎ ((error ≡ HouseError.OutOfMemory) × (server < length (core_of self.old).faces))) }
+        ensures refused { IfErr result (KeepsBack self.old server) }
     {
         match self.collector.take_results(server) {
             Ok(results) => Ok(results),

@@ -1,13 +1,20 @@
--- What a call does to a core: one step, or a list of steps.
-use Rattle.std.specs.Prelude.{◌≡◌, List, length}
+-- What a call does to a core: one step, or a list of steps; and what a call returns of it.
+use Rattle.std.specs.Prelude.{◌≡◌, ℕ, ◌<◌, false, List, length, Result}
 use Rattle.std.specs.Bool.{MatchBool}
 use Rattle.cbs_job.specs.Work.{Meaning}
-use Rattle.cbs_steps.specs.History.{History, ◌⊕◌, reply_in}
+use Rattle.cbs_rate.specs.Refusals.{RefusesByOrMemory}
+use Rattle.cbs_steps.specs.Faces.{submit_refusal}
+use Rattle.cbs_steps.specs.History.{History, Setup, ◌⊕◌, faces, reply_in, world_after}
+use Rattle.cbs_steps.specs.Laws.{account_in, completion_in, completion_of, completions_of, Completes}
 use Rattle.cbs_steps.specs.OnTime.{KeepsTime, KeepsTimeAll}
 use Rattle.cbs_steps.specs.Paced.{KeepsPace, KeepsPaceAll}
+use Rattle.cbs_steps.specs.Punctual.{IsPunctual}
 use Rattle.cbs_steps.specs.Replies.{IsAccepted, is_lack, HandsBack, grown_by, AnswersAll}
+use Rattle.cbs_steps.specs.declared.error.CoreError.{CoreError}
+use Rattle.cbs_steps.specs.declared.error.CoreError.TheVariants.{OutOfMemory}
 use Rattle.cbs_steps.specs.declared.reply.Reply.{Reply}
 use Rattle.cbs_steps.specs.declared.step.Step.{Step}
+use Rattle.cbs_steps.specs.declared.view.ServerView.{ServerView}
 use Rattle.cbs_core.specs.Agreement.{Agrees}
 use Rattle.cbs_core.specs.Held.{CoreHeld, KeepsBudgets}
 
@@ -44,3 +51,26 @@ module _ {W : Type 0} where
     pub paced : (M : History W) → Agrees work old M → KeepsPaceAll work M xs rs
     pub count : length new.faces ≡ length old.faces
     pub budgets : KeepsBudgets new
+
+  -- what the reply to the step x means for each server: its completions go on by that of the reply
+  abbrev pub CompletesStep : Meaning W → CoreHeld W → Step W → Reply W → Type 0
+  CompletesStep work old x r = (M : History W) → Agrees work old M → (s : ℕ)
+      → Completes work (account_in work M s) (account_in work (M ⊕ x) s) (completion_of s (completion_in r))
+
+  -- the same of a list of steps
+  abbrev pub CompletesSteps : Meaning W → CoreHeld W → List (Step W) → List (Reply W) → Type 0
+  CompletesSteps work old xs rs = (M : History W) → Agrees work old M → (s : ℕ)
+      → Completes work (account_in work M s) (account_in work (grown_by M xs rs) s) (completions_of s rs)
+
+  -- the laws on time and on a server's share hold of every list of steps after this setup
+  abbrev pub AllPunctual : Meaning W → Setup → Type 0
+  AllPunctual work setup = (steps : List (Step W)) → IsPunctual work (record { setup = setup; steps = steps })
+
+  -- the call refuses as a submit on this server would, or is out of memory, or succeeds
+  abbrev pub RefusesAsSubmit : {T : Type 0} → Meaning W → CoreHeld W → ℕ → Result T CoreError → Type 0
+  RefusesAsSubmit work core server result = (M : History W) → Agrees work core M
+      → RefusesByOrMemory OutOfMemory result (submit_refusal M.setup.backlog (faces work (world_after work M)) server)
+
+-- the view's server has no unfinished job, or is throttled, or it is still before this tick
+abbrev pub IsBefore : ℕ → ServerView → ℕ → Type 0
+IsBefore now view tick = view.finished < view.accepted → view.throttled ≡ false → now < tick

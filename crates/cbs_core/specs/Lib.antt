@@ -7,7 +7,6 @@ pub mod Waiting
 pub use Rattle.cbs_lists.specs.Lists
 pub use Rattle.cbs_rate.specs.Limits
 pub use Rattle.cbs_rate.specs.Plan
-pub use Rattle.cbs_rate.specs.Refusals
 pub use Rattle.cbs_steps.specs.Choice
 pub use Rattle.cbs_steps.specs.Faces
 pub use Rattle.cbs_steps.specs.History

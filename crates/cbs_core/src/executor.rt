@@ -1,13 +1,13 @@
 //! The core: all servers, and the clock.
 
-ghost use Rattle.std.specs.Prelude.{◌≡◌, ℕ, ◌+◌, ◌*◌, ◌<◌, ◌≤◌, true, false, IfOk, IfErr, IfSome, OnOk, OnErr, IsOk, length, slice_get, List, [], MatchOption};
+ghost use Rattle.std.specs.Prelude.{◌≡◌, ℕ, ◌+◌, ◌*◌, ◌<◌, ◌≤◌, true, false, IfOk, IfErr, IfSome, OnOk, OnErr, IsOk, length, slice_get, [], MatchOption};
 ghost use Rattle.cbs_rate.specs.Refusals.{RefusesByOrMemory};
 ghost use Rattle.cbs_steps.specs.Quiet.{IsAtRest, IsIdleSpan};
 ghost use Rattle.cbs_steps.specs.Choice.{IsChoice};
-ghost use Rattle.cbs_steps.specs.Faces.{face_at, ranks, submit_refusal, view_reply, charges_reply};
-ghost use Rattle.cbs_steps.specs.History.{History, ◌⊕◌, account, faces, world_after, chosen};
-ghost use Rattle.cbs_steps.specs.Replies.{submitted, advanced, closed, charged, is_lack, grown_by};
-ghost use Rattle.cbs_steps.specs.Laws.{account_in, completion_in, completion_of, completions_of, Completes, NoneAfterClose, IsWithinBudget};
+ghost use Rattle.cbs_steps.specs.Faces.{face_at, ranks, view_reply, charges_reply};
+ghost use Rattle.cbs_steps.specs.History.{History, account, faces, chosen};
+ghost use Rattle.cbs_steps.specs.Replies.{submitted, advanced, closed, charged, is_lack};
+ghost use Rattle.cbs_steps.specs.Laws.{account_in, completion_in, NoneAfterClose, IsWithinBudget};
 ghost use Rattle.cbs_steps.specs.Lateness.{later_charges};
 ghost use Rattle.cbs_steps.specs.OnTime.{IsWorldOnTime};
 ghost use Rattle.cbs_steps.specs.Paced.{AllFinishedLate};
@@ -15,7 +15,7 @@ ghost use Rattle.cbs_steps.specs.Promises.{promised, AllFinishedBy};
 ghost use Rattle.cbs_steps.specs.Punctual.{IsPunctual};
 ghost use Rattle.cbs_steps.specs.Setups.{terms_of, new_refusal};
 ghost use Rattle.cbs_core.specs.Agreement.{Agrees, TellsOf};
-ghost use Rattle.cbs_core.specs.Calls.{Makes, Tries, TriesAll};
+ghost use Rattle.cbs_core.specs.Calls.{AllPunctual, CompletesStep, CompletesSteps, IsBefore, Makes, RefusesAsSubmit, Tries, TriesAll};
 ghost use Rattle.cbs_core.specs.Held.{room_of, KeepsRoom, IsOpen, HasRoom, IsRefusedBy, IsCoreOnTime, IsCorePaced, front_output, held_at, TakesJob, ClosesServer, OthersSame, AllSame, DoesRun, CountsOn, running, is_running};
 ghost use Rattle.cbs_rate.specs.Limits.{longest_period, most_servers};
 
@@ -88,14 +88,8 @@ impl<W: Work, A: Allocator + Clone> Core<W, A> {
             })) }
         ensures on_time { IfOk result (λ core. IsCoreOnTime core) }
         ensures paced { IfOk result (λ core. IsCorePaced core) }
-        ensures punctual { OnOk result ((steps : List (Step W))
-            → IsPunctual W.meaning (record {
-              setup = record {
-                servers = terms_of modes plan.rates;
-                backlog = backlog;
-              };
-              steps = steps;
-            })) }
+        ensures punctual { OnOk result (AllPunctual W.meaning
+            (record { servers = terms_of modes plan.rates; backlog = backlog })) }
         ensures refusal { RefusesByOrMemory CoreError.OutOfMemory result (new_refusal backlog) }
     {
         Core::of(alloc, &plan, &modes, backlog)
@@ -115,12 +109,8 @@ impl<W: Work, A: Allocator + Clone> Core<W, A> {
             })) }
         ensures on_time { IfOk result (λ core. IsCoreOnTime core) }
         ensures paced { IfOk result (λ core. IsCorePaced core) }
-        ensures punctual { OnOk result ((steps : List (Step W))
-            → IsPunctual W.meaning (record {
-              setup = record
-                  { servers = terms_of modes.now plan.now.rates; backlog = backlog };
-              steps = steps;
-            })) }
+        ensures punctual { OnOk result (AllPunctual W.meaning
+            (record { servers = terms_of modes.now plan.now.rates; backlog = backlog })) }
         ensures refusal { RefusesByOrMemory CoreError.OutOfMemory result (new_refusal backlog) }
     {
         if backlog == 0 || backlog > MAX_BACKLOG {
@@ -149,9 +139,7 @@ impl<W: Work, A: Allocator> Core<W, A> {
     ///
     /// Refuses as a submit on that server would, and returns [`CoreError::OutOfMemory`] if an allocation is refused.
     pub fn make_room(&mut self, server: u16) -> Result<(), CoreError>
-        ensures answer { (M : History W) → Agrees W.meaning self.old M
-            → RefusesByOrMemory CoreError.OutOfMemory result
-            (submit_refusal M.setup.backlog (faces W.meaning (world_after W.meaning M)) server) }
+        ensures answer { RefusesAsSubmit W.meaning self.old server result }
         ensures state { (M : History W) → Agrees W.meaning self.old M
             → Agrees W.meaning self.new M }
         ensures room { OnOk result (HasRoom self.new server) }
@@ -413,14 +401,12 @@ impl<W: Work, A: Allocator> Core<W, A> {
         ensures budget { TellsOf W.meaning self.now (λ w.
             OnOk result (IsWithinBudget (face_at (faces W.meaning w) server))) }
         ensures in_time { TellsOf W.meaning self.now (λ w. IsWorldOnTime W.meaning w
-            → IfOk result (λ view. view.finished < view.accepted → view.throttled ≡ false
-            → w.now < view.deadline)) }
+            → IfOk result (λ view. IsBefore w.now view view.deadline)) }
 
         // With charges: late by less than those with later deadlines were charged, the most of each for one unit.
         ensures late_by { IsCorePaced self.now
             → TellsOf W.meaning self.now (λ w. IfOk result (λ view.
-            view.finished < view.accepted → view.throttled ≡ false
-            → w.now < view.deadline + later_charges view.deadline w.accounts)) }
+            IsBefore w.now view (view.deadline + later_charges view.deadline w.accounts))) }
     {
         self.servers.view(server)
     }
@@ -497,11 +483,8 @@ impl<W: Work, A: Allocator> Core<W, A> {
             TriesAll W.meaning self.old self.new steps.items replies.items) }
 
         // What the replies mean for each server, over the whole list.
-        ensures completions { IfOk result (λ replies. (M : History W) → Agrees W.meaning self.old M
-            → (s : ℕ)
-            → Completes W.meaning (account_in W.meaning M s)
-            (account_in W.meaning (grown_by M steps.items replies.items) s)
-            (completions_of s replies.items)) }
+        ensures completions { IfOk result (λ replies.
+            CompletesSteps W.meaning self.old steps.items replies.items) }
         ensures closes { IfOk result (λ replies. (M : History W) → Agrees W.meaning self.old M
             → (s : ℕ)
             → NoneAfterClose s (account_in W.meaning M s).closed steps.items replies.items) }
@@ -531,10 +514,7 @@ impl<W: Work, A: Allocator> Core<W, A> {
     /// [`advance`](Core::advance), [`close`](Core::close) or [`charge`](Core::charge).
     pub fn step(&mut self, step: Step<W>) -> Reply<W>
         ensures tries { Tries W.meaning self.old self.new step result }
-        ensures completes { is_lack result ≡ false → (M : History W) → Agrees W.meaning self.old M
-            → (s : ℕ)
-            → Completes W.meaning (account_in W.meaning M s) (account_in W.meaning (M ⊕ step) s)
-            (completion_of s (completion_in result)) }
+        ensures completes { is_lack result ≡ false → CompletesStep W.meaning self.old step result }
     {
         self.make(step)
     }

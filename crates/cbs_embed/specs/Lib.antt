@@ -7,5 +7,3 @@ pub mod Openings
 pub mod Plans
 pub mod Lending
 pub mod LendingHandles
--- what the clauses name of the libraries below
-pub use Rattle.cbs_rate.specs.Plan

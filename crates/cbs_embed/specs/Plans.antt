@@ -1,7 +1,8 @@
 -- Which servers make a setup.
-use Rattle.std.specs.Prelude.{ℕ, zero, suc, List, [], ◌∷◌, Option, Some, None}
+use Rattle.std.specs.Prelude.{◌≡◌, ℕ, zero, suc, List, [], ◌∷◌, Option, Some, None, Result}
+use Rattle.std.specs.Result.{MatchResult}
 use Rattle.std.specs.Option.{unwrap_or}
-use Rattle.cbs_rate.specs.Plan.{Planned, admit_refusal}
+use Rattle.cbs_rate.specs.Plan.{IsGreatestBudget, Planned, admit_refusal}
 use Rattle.cbs_rate.specs.Rate.{rate_refusal}
 use Rattle.cbs_rate.specs.declared.error.RateError.{RateError}
 use Rattle.cbs_rate.specs.declared.error.AdmitError.{AdmitError}
@@ -53,3 +54,14 @@ setup_refusal s (r ∷ rs) = server_refusal s.plan r (setup_refusal (with_server
 unfoldable pub setup_with : ModedPlan → List Server → ModedPlan
 setup_with s [] = s
 setup_with s (r ∷ rs) = setup_with (with_server s r) rs
+
+-- the setup takes one more server, or refuses it by the first refusal that applies to it
+abbrev pub TakesServer : Planned → Server → Result (Unit {0}) Refusal → Type 0
+TakesServer plan server result = MatchResult result (λ _. server_refusal plan server None ≡ None)
+    (λ error. (rest : Option Refusal) → server_refusal plan server rest ≡ Some error)
+
+-- the greatest budget with which a server of this period is admitted after these servers, or why these are refused
+abbrev pub TellsGreatest : List Server → ℕ → Result ℕ Refusal → Type 0
+TellsGreatest servers period result = MatchResult result
+    (λ budget. (setup_refusal whole_processor servers ≡ None) × IsGreatestBudget (setup_with whole_processor servers).plan period budget)
+    (λ error. setup_refusal whole_processor servers ≡ Some error)

@@ -1,10 +1,8 @@
 //! Which servers make a setup.
 
-ghost use Rattle.std.specs.Prelude.{◌≡◌, OnOk, MatchResult, Option, Some, None};
-ghost use Rattle.cbs_rate.specs.Plan.{IsGreatestBudget};
-ghost use Rattle.cbs_embed.specs.Plans.{server_refusal, with_server, mode_from, setup_refusal, setup_with, whole_processor};
+ghost use Rattle.std.specs.Prelude.{◌≡◌, OnOk, MatchResult, Some, None};
+ghost use Rattle.cbs_embed.specs.Plans.{TakesServer, TellsGreatest, with_server, mode_from, setup_refusal, setup_with, whole_processor};
 ghost use Rattle.cbs_embed.specs.declared.refusal.HandleError.TheVariants as HandleError;
-ghost use Rattle.cbs_embed.specs.declared.refusal.Refusal.{Refusal};
 ghost use Rattle.cbs_embed.specs.declared.refusal.Refusal.TheVariants as refused;
 
 use crate::refusal::{HandleError, Refusal};
@@ -50,9 +48,7 @@ pub fn admit(servers: &[Server]) -> Result<(), Refusal>
 /// Adds one more server to the setup. Returns why the server is refused, if it is. After a refusal the setup is of no
 /// use.
 fn take_in(setup: &mut Setup, server: Server) -> Result<(), Refusal>
-    ensures answer { MatchResult result (λ _. server_refusal setup.old.plan server None ≡ None)
-        (λ error. (rest : Option Refusal) → server_refusal setup.old.plan server rest
-        ≡ Some error) }
+    ensures answer { TakesServer setup.old.plan server result }
     ensures setup { OnOk result (setup.new ≡ with_server setup.old server) }
 {
     let reservation = match Reservation::new(server.budget, server.period) {
@@ -87,10 +83,7 @@ pub fn mode_of(mode: u32) -> Result<Mode, Refusal>
 /// Refuses exactly if these servers themselves are refused, as [`take_all`] refuses them.
 #[inline(never)]
 pub fn greatest_budget(servers: &[Server], period: u64) -> Result<u64, Refusal>
-    ensures { MatchResult result
-        (λ budget. (setup_refusal whole_processor servers.now ≡ None)
-        × IsGreatestBudget (setup_with whole_processor servers.now).plan period budget)
-        (λ error. setup_refusal whole_processor servers.now ≡ Some error) }
+    ensures { TellsGreatest servers.now period result }
 {
     let mut setup = whole_processor();
     take_all(&mut setup, servers)?;

@@ -8,4 +8,5 @@ pub use Rattle.cbs_clients.specs.contracts.client.Client
 pub use Rattle.cbs_core.specs.Held
 pub use Rattle.cbs_host.specs.Meters
 pub use Rattle.cbs_rate.specs.Limits
+pub use Rattle.cbs_rate.specs.Refusals
 pub use Rattle.cbs_steps.specs.Setups

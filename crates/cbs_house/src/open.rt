@@ -1,7 +1,8 @@
 //! Opens a house with its feeds.
 
-ghost use Rattle.std.specs.Prelude.{◌≡◌, ◌⊎◌, Some, None, length, map, IfOk, MatchResult};
+ghost use Rattle.std.specs.Prelude.{◌≡◌, length, map, IfOk, MatchResult};
 ghost use Rattle.std.specs.List.{All, range_with_len};
+ghost use Rattle.cbs_rate.specs.Refusals.{HandsBackByOrMemory};
 ghost use Rattle.cbs_steps.specs.Setups.{terms_of};
 ghost use Rattle.cbs_clients.specs.Calls.{IsNewHouse};
 ghost use Rattle.cbs_house.specs.Feeds.{client_of, unsent_jobs, servers_of};
@@ -50,9 +51,8 @@ pub fn open_feeds<W: Work, A: Allocator + Copy>(
     ensures jobs { MatchResult result (λ r. map unsent_jobs r.1.items
         ≡ map (λ jobs. jobs.items) lists.items) (λ refused. refused.lists ≡ lists) }
     ensures ready { IfOk result (λ r. Ready r.0 r.1.items) }
-    ensures refusal { MatchResult result (λ _. open_refusal backlog ring ≡ None) (λ refused.
-        (open_refusal backlog ring ≡ Some refused.error) ⊎ ((open_refusal backlog ring ≡ None)
-        × (refused.error ≡ HouseError.OutOfMemory))) }
+    ensures refusal { HandsBackByOrMemory (λ refused. refused.error) HouseError.OutOfMemory result
+        (open_refusal backlog ring) }
 {
     match open_house(alloc, plan, modes, backlog, ring) {
         Ok((house, clients)) => match feeds_of(alloc, clients, lists) {

@@ -54,13 +54,13 @@ pub fn serve_round<R: Threads + Clock + Sync, G: Gate + Sync, W: Work + Send>(
     ensures ready { Ready house.new feeds.new }
     ensures feeds { KeepsFeeds feeds.old feeds.new }
     ensures each { EachSendsAtMost turns feeds.old feeds.new }
-    ensures sent { (all_sent feeds.new ≡ all_sent feeds.old + result.sent)
-        × (result.sent ≤ turns * length feeds.old) }
+    ensures counts { (all_sent feeds.new ≡ all_sent feeds.old + result.sent)
+        × (result.sent ≤ turns * length feeds.old)
+        × (result.took ≤ turns * length (core_of house.old).faces) }
     ensures took { TakesTurns W.meaning NothingBeyond turns (servers_of feeds.old) house.old
         house.new result.took }
     ensures on_time { IsHouseOnTime house.old → IsHouseOnTime house.new }
     ensures paced { IsHousePaced house.old → IsHousePaced house.new }
-    ensures few { result.took ≤ turns * length (core_of house.old).faces }
 {
     serve_round_metered(rt, house, feeds, turns, gate, &mut NoMeter)
 }
@@ -84,13 +84,13 @@ pub fn serve_round_metered<R: Threads + Clock + Sync, G: Gate + Sync, W: Work + 
     ensures ready { Ready house.new feeds.new }
     ensures feeds { KeepsFeeds feeds.old feeds.new }
     ensures each { EachSendsAtMost turns feeds.old feeds.new }
-    ensures sent { (all_sent feeds.new ≡ all_sent feeds.old + result.sent)
-        × (result.sent ≤ turns * length feeds.old) }
+    ensures counts { (all_sent feeds.new ≡ all_sent feeds.old + result.sent)
+        × (result.sent ≤ turns * length feeds.old)
+        × (result.took ≤ turns * length (core_of house.old).faces) }
     ensures took { TakesTurns W.meaning M.may_tell turns (servers_of feeds.old) house.old house.new
         result.took }
     ensures on_time { NeverCharges M.may_tell → IsHouseOnTime house.old → IsHouseOnTime house.new }
     ensures paced { IsHousePaced house.old → IsHousePaced house.new }
-    ensures few { result.took ≤ turns * length (core_of house.old).faces }
 {
     let mut servers = [0u16; 64];
     let wanted = servers_of(feeds, &mut servers);

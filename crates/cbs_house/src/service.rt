@@ -50,8 +50,8 @@ pub fn serve<R: Threads + Clock + Sync, G: Gate + Sync, W: Work + Send>(
     ensures steps { ServesOn W.meaning house.old house.new }
     ensures on_time { IsHouseOnTime house.old → IsHouseOnTime house.new }
     ensures paced { IsHousePaced house.old → IsHousePaced house.new }
-    ensures served { OnOk result (All (IsServed W.meaning house.new) feeds.new) }
-    ensures drained { OnOk result (HoldsNoJob (core_of house.new)) }
+    ensures served { OnOk result (All (IsServed W.meaning house.new) feeds.new
+        × HoldsNoJob (core_of house.new)) }
     ensures received { All (ReceivesFirst house.new) feeds.new }
     ensures stops { IfErr result (Stops W.meaning NothingBeyond house.old feeds.old house.new
         feeds.new) }
@@ -78,8 +78,8 @@ pub fn serve_metered<R: Threads + Clock + Sync, G: Gate + Sync, W: Work + Send, 
     ensures steps { ServesBy W.meaning M.may_tell house.old house.new }
     ensures on_time { NeverCharges M.may_tell → IsHouseOnTime house.old → IsHouseOnTime house.new }
     ensures paced { IsHousePaced house.old → IsHousePaced house.new }
-    ensures served { OnOk result (All (IsServed W.meaning house.new) feeds.new) }
-    ensures drained { OnOk result (HoldsNoJob (core_of house.new)) }
+    ensures served { OnOk result (All (IsServed W.meaning house.new) feeds.new
+        × HoldsNoJob (core_of house.new)) }
     ensures received { All (ReceivesFirst house.new) feeds.new }
     ensures stops { IfErr result (Stops W.meaning M.may_tell house.old feeds.old house.new
         feeds.new) }

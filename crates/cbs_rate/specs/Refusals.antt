@@ -14,3 +14,8 @@ HandsBackBy error r refusal = MatchResult r (λ _. refusal ≡ None) (λ back. r
 -- the call refuses by the refusal that applies; if none applies, it succeeds or is out of memory
 abbrev pub RefusesByOrMemory : {T E : Type 0} → E → Result T E → Option E → Type 0
 RefusesByOrMemory memory r refusal = MatchResult r (λ _. refusal ≡ None) (λ e. (refusal ≡ Some e) ⊎ ((refusal ≡ None) × (e ≡ memory)))
+
+-- the same of a call that hands something back with its error
+abbrev pub HandsBackByOrMemory : {T R E : Type 0} → (R → E) → E → Result T R → Option E → Type 0
+HandsBackByOrMemory error memory r refusal =
+    MatchResult r (λ _. refusal ≡ None) (λ back. (refusal ≡ Some (error back)) ⊎ ((refusal ≡ None) × (error back ≡ memory)))

@@ -1,8 +1,8 @@
 //! What one server more would take: the bandwidth of all servers then, and the least period at which a budget fits.
 
-ghost use Rattle.std.specs.Prelude.{◌≡◌, ◌*◌, ◌≤◌, ℕ, [], ◌∷◌, ◌++◌, IsTrue, MatchOption};
-ghost use Rattle.cbs_rate.specs.Plan.{IsPlan, common_multiple, fits, with_rate};
-ghost use Rattle.cbs_rate.specs.Room.{IsBandwidth, IsExcess, IsLeastPeriod};
+ghost use Rattle.std.specs.Prelude.{◌≡◌, ◌*◌, ◌≤◌, ℕ, [], ◌∷◌, ◌++◌, MatchOption};
+ghost use Rattle.cbs_rate.specs.Plan.{IsPlan, common_multiple, with_rate};
+ghost use Rattle.cbs_rate.specs.Room.{IsBandwidth, IsLeastPeriod, TellsExcess};
 
 use crate::multiple::least_common_multiple;
 use crate::plan::Plan;
@@ -45,10 +45,7 @@ impl Plan {
     /// Returns by how much the total bandwidth would pass the bound with one more server of this reservation, or `None`
     /// if it would be within the bound.
     pub fn excess_with(&self, reservation: Reservation) -> Option<Ratio>
-        ensures { let rates = (with_rate self.now reservation).rates in
-            MatchOption result
-            (IsTrue (fits self.now.bound rates))
-            (λ excess. IsExcess self.now.bound rates excess.part excess.whole) }
+        ensures { TellsExcess self.now.bound (with_rate self.now reservation).rates result }
     {
         let total = self.total_with(reservation);
         let num = u128::from(self.bound().num());

@@ -1,8 +1,9 @@
 -- What a collector holds.
-use Rattle.std.specs.Prelude.{ℕ, ◌≡◌, ◌≢◌, ◌+◌, ◌<◌, ◌||◌, leb, ltb, if◌then◌else◌, List, [], ◌∷◌, ◌++◌, length, get_or, Option, Some, None}
+use Rattle.std.specs.Prelude.{ℕ, ◌≡◌, ◌≢◌, ◌+◌, ◌<◌, ◌≤◌, ◌⊎◌, ◌||◌, leb, ltb, if◌then◌else◌, List, [], ◌∷◌, ◌++◌, length, get_or, Option, Some, None, Result}
+use Rattle.std.specs.Result.{MatchResult}
 use Rattle.cbs_job.specs.declared.completion.Completion.{Completion}
 use Rattle.cbs_results.specs.declared.error.CollectError.{CollectError}
-use Rattle.cbs_results.specs.declared.error.CollectError.TheVariants.{Stranger, Double, Early}
+use Rattle.cbs_results.specs.declared.error.CollectError.TheVariants.{Stranger, Double, Early, OutOfMemory}
 
 -- What a collector holds of one server: how many results were handed out, and the results kept, which were taken after
 -- those, in order. Then how many completions were announced, and how many more can be announced without an allocation
@@ -39,6 +40,11 @@ OtherShelvesSame s old new = (t : ℕ) → t ≢ s → SameShelf (shelf_at old t
 -- results and announcements of every server are as before
 abbrev pub AllShelvesSame : List Shelved → List Shelved → Type 0
 AllShelvesSame old new = (t : ℕ) → SameShelf (shelf_at old t) (shelf_at new t)
+
+-- server s is there; or the call refuses, since it is not there, or since memory was refused
+abbrev pub NeedsServer : {T : Type 0} → List Shelved → ℕ → Result T CollectError → Type 0
+NeedsServer c s result = MatchResult result (λ _. s < length c)
+    (λ e. ((e ≡ Stranger) × (length c ≤ s)) ⊎ ((e ≡ OutOfMemory) × (s < length c)))
 
 -- one more completion was announced
 pub record Announces (old new : Shelved) : Type 0 where

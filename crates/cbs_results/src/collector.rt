@@ -1,8 +1,8 @@
 //! The results of all servers.
 
-ghost use Rattle.std.specs.Prelude.{ℕ, ◌≡◌, ◌<◌, ◌≤◌, ◌↔◌, ◌⊎◌, length, true, false, IfOk, OnOk, OnErr, IsOk, MatchResult, MatchOption, Some, None};
+ghost use Rattle.std.specs.Prelude.{ℕ, ◌≡◌, ◌<◌, ◌≤◌, ◌↔◌, length, true, false, IfOk, OnOk, OnErr, IsOk, MatchResult, MatchOption, Some, None};
 ghost use Rattle.std.specs.List.{All};
-ghost use Rattle.cbs_results.specs.Collected.{shelf_at, no_shelf, SameShelf, OtherShelvesSame, AllShelvesSame, Announces, TakesResult, HandsOut, IsWaiting, IsComplete, IsNext, take_refusal};
+ghost use Rattle.cbs_results.specs.Collected.{shelf_at, no_shelf, SameShelf, OtherShelvesSame, AllShelvesSame, Announces, TakesResult, HandsOut, NeedsServer, IsWaiting, IsComplete, IsNext, take_refusal};
 
 use crate::error::CollectError;
 use crate::shelf::Shelf;
@@ -51,9 +51,7 @@ impl<A: Allocator> Collector<A> {
     pub fn make_room(&mut self, server: u16) -> Result<(), CollectError>
         ensures same { AllShelvesSame self.old self.new × (length self.new ≡ length self.old) }
         ensures room { OnOk result (0 < (shelf_at self.new server).spare) }
-        ensures refusal { MatchResult result (λ _. server < length self.old)
-            (λ e. ((e ≡ CollectError.Stranger) × (length self.old ≤ server))
-            ⊎ ((e ≡ CollectError.OutOfMemory) × (server < length self.old))) }
+        ensures refusal { NeedsServer self.old server result }
         ensures succeeds { 0 < (shelf_at self.old server).spare → IsOk result }
     {
         let index = usize::from(server);
@@ -87,22 +85,12 @@ impl<A: Allocator> Collector<A> {
         ensures others { OtherShelvesSame server self.old self.new
             × (length self.new ≡ length self.old) }
         ensures refused { OnErr result (AllShelvesSame self.old self.new) }
-        ensures refusal { MatchResult result (λ _. server < length self.old)
-            (λ e. ((e ≡ CollectError.Stranger) × (length self.old ≤ server))
-            ⊎ ((e ≡ CollectError.OutOfMemory) × (server < length self.old))) }
+        ensures refusal { NeedsServer self.old server result }
         ensures succeeds { 0 < (shelf_at self.old server).spare → IsOk result }
     {
-        let index = usize::from(server);
-        if index >= self.shelves.len() {
-            return Err(CollectError::Stranger);
-        }
-        match self.reserve(server) {
-            Ok(()) => {
-                self.expect_reserved(server);
-                Ok(())
-            }
-            Err(_) => Err(CollectError::OutOfMemory),
-        }
+        self.make_room(server)?;
+        self.expect_reserved(server);
+        Ok(())
     }
 
     /// Announces one more completion of a server. There must be a place for its result.
@@ -183,9 +171,7 @@ impl<A: Allocator> Collector<A> {
         ensures others { OtherShelvesSame server self.old self.new
             × (length self.new ≡ length self.old) }
         ensures refused { OnErr result (self.new ≡ self.old) }
-        ensures refusal { MatchResult result (λ _. server < length self.old)
-            (λ e. ((e ≡ CollectError.Stranger) × (length self.old ≤ server))
-            ⊎ ((e ≡ CollectError.OutOfMemory) × (server < length self.old))) }
+        ensures refusal { NeedsServer self.old server result }
     {
         let index = usize::from(server);
         if index >= self.shelves.len() {

@@ -49,23 +49,23 @@ pub drawn_of : (drawing : Drawing) (name : List ℕ) (w : Window) (r f : File) (
 drawn_of drawing name w r f text is drawn = subst (λ (g : File). IsDrawingOf drawing (IsPictureOf name (run_of_tasks g) w) text) is drawn
 
 -- a command that always has something to show ends as one that prints a text
-pub ends_printing : {F : Type 0} (c : Command F) → ((f : F) (e : NothingShown) → c.nothing f e → ⊥) → (bytes : List ℕ) (out out' err err' : Writer)
-    (ended : Result (Unit {0}) Stopped) (status : ℕ) → Does c bytes ended out out' → Tells ended err err' status
-    → EndsPrinting c.read c.prints c.short bytes out out' err err' status
-ends_printing c none bytes out out' err err' (Ok x) status d t = rw t.0 (done d.0 d.1 d.2 d.3 d.4 t.1)
-ends_printing c none bytes out out' err err' (Err (Unread fault)) status d t = rw t.0 (refused fault d.0 d.1 t.1)
-ends_printing c none bytes out out' err err' (Err (Ended e)) status d t = absurd (none d.0 e d.2)
-ends_printing c none bytes out out' err err' (Err (Run error)) status d t = rw t.0 (stopped d.0 error d.1 d.2 t.1)
+pub ends_printing : {F : Type 0} (c : Command F) → ((f : F) (e : NothingShown) → c.nothing f e → ⊥) → (name bytes : List ℕ) (out out' err err' : Writer)
+    (ended : Result (Unit {0}) Stopped) (status : ℕ) → Does c bytes ended out out' → Tells name bytes ended err err' status
+    → EndsPrinting c.read c.prints c.short name bytes out out' err err' status
+ends_printing c none name bytes out out' err err' (Ok x) status d t = rw t.0 (done d.0 d.1 d.2 d.3 d.4 t.1)
+ends_printing c none name bytes out out' err err' (Err (Unread fault)) status d t = rw t.0 (refused fault d.0 d.1 t.1)
+ends_printing c none name bytes out out' err err' (Err (Ended e)) status d t = absurd (none d.0 e d.2)
+ends_printing c none name bytes out out' err err' (Err (Run error)) status d t = rw t.0 (stopped d.0 error d.1 d.2 t.1)
 
 -- a command that draws ends so
-pub ends_drawing : {F : Type 0} (read : List ℕ → Result F FileFault) (is : F → List ℕ → Type 0) (ends : F → ℕ) (asked : Window) (bytes : List ℕ)
-    (out out' err err' : Writer) (ended : Result (Unit {0}) Stopped) (status : ℕ) → Does (drawing_command read is ends asked) bytes ended out out'
-    → Tells ended err err' status → EndsDrawing read is ends asked bytes out out' err err' status
-ends_drawing read is ends asked bytes out out' err err' (Ok x) status d t = rw t.0 (printed 0 (done d.0 d.1 d.2 d.3 d.4 t.1))
-ends_drawing read is ends asked bytes out out' err err' (Err (Unread fault)) status d t = rw t.0 (printed 3 (refused fault d.0 d.1 t.1))
-ends_drawing read is ends asked bytes out out' err err' (Err (Ended e)) status d t =
+pub ends_drawing : {F : Type 0} (read : List ℕ → Result F FileFault) (is : F → List ℕ → Type 0) (ends : F → ℕ) (asked : Window)
+    (name bytes : List ℕ) (out out' err err' : Writer) (ended : Result (Unit {0}) Stopped) (status : ℕ) → Does (drawing_command read is ends asked) bytes ended out out'
+    → Tells name bytes ended err err' status → EndsDrawing read is ends asked name bytes out out' err err' status
+ends_drawing read is ends asked name bytes out out' err err' (Ok x) status d t = rw t.0 (printed 0 (done d.0 d.1 d.2 d.3 d.4 t.1))
+ends_drawing read is ends asked name bytes out out' err err' (Err (Unread fault)) status d t = rw t.0 (printed 3 (refused fault d.0 d.1 t.1))
+ends_drawing read is ends asked name bytes out out' err err' (Err (Ended e)) status d t =
     let from : e.from ≡ asked.from = ap (λ (x : NothingShown). x.from) d.2.1 in
     let end : e.end ≡ ends d.0 = ap (λ (x : NothingShown). x.end) d.2.1 in
     let told : TriesToWrite err err' (nothing_shown_line asked.from (ends d.0)) = rw (← from, ← end) t.1 in
     rw t.0 (nothing_shown d.0 d.1 d.2.0 d.3 told)
-ends_drawing read is ends asked bytes out out' err err' (Err (Run error)) status d t = rw t.0 (printed 4 (stopped d.0 error d.1 d.2 t.1))
+ends_drawing read is ends asked name bytes out out' err err' (Err (Run error)) status d t = rw t.0 (printed 4 (stopped d.0 error d.1 d.2 t.1))

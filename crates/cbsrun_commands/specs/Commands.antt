@@ -28,9 +28,9 @@ Does {F} c bytes (Err (Unread fault)) old new = ((fault ≡ no_memory) ⊎ (c.re
 Does {F} c bytes (Err (Ended e)) old new = (f : F) × (c.read bytes ≡ Ok f) × c.nothing f e × IsUntouched old new
 Does {F} c bytes (Err (Run error)) old new = (f : F) × (c.read bytes ≡ Ok f) × StopsPrinting (c.prints f) (c.short f) error old new
 
--- how a command ended was written, and this is its status
-abbrev pub Tells : Result (Unit {0}) Stopped → Writer → Writer → ℕ → Type 0
-Tells (Ok x) old new status = (status ≡ 0) × IsUntouched old new
-Tells (Err (Unread fault)) old new status = (status ≡ 3) × Explains fault old new
-Tells (Err (Ended e)) old new status = (status ≡ 2) × TriesToWrite old new (nothing_shown_line e.from e.end)
-Tells (Err (Run error)) old new status = (status ≡ 4) × TriesToWrite old new (run_line error)
+-- how a command on the file with this name and these bytes ended was written, and this is its status
+abbrev pub Tells : List ℕ → List ℕ → Result (Unit {0}) Stopped → Writer → Writer → ℕ → Type 0
+Tells name bytes (Ok x) old new status = (status ≡ 0) × IsUntouched old new
+Tells name bytes (Err (Unread fault)) old new status = (status ≡ 3) × Explains name bytes fault old new
+Tells name bytes (Err (Ended e)) old new status = (status ≡ 2) × TriesToWrite old new (nothing_shown_line e.from e.end)
+Tells name bytes (Err (Run error)) old new status = (status ≡ 4) × TriesToWrite old new (run_line error)

@@ -48,12 +48,12 @@ end_of f = f.until
 
 -- a command that draws the file which the bytes spell by `read` ended with this status, and left out and err so. It
 -- ended as a command that prints a text, or with 2 if the run has none of the ticks that are asked for
-pub data EndsDrawing {F : Type 0} (read : List ℕ → Result F FileFault) (is : F → List ℕ → Type 0) (ends : F → ℕ) (asked : Window) (bytes : List ℕ)
-    (out out' err err' : Writer) : ℕ → Type 0 where
-  printed : (status : ℕ) → EndsPrinting read is (λ f. IsUntouched) bytes out out' err err' status
-      → EndsDrawing read is ends asked bytes out out' err err' status
+pub data EndsDrawing {F : Type 0} (read : List ℕ → Result F FileFault) (is : F → List ℕ → Type 0) (ends : F → ℕ) (asked : Window)
+    (name bytes : List ℕ) (out out' err err' : Writer) : ℕ → Type 0 where
+  printed : (status : ℕ) → EndsPrinting read is (λ f. IsUntouched) name bytes out out' err err' status
+      → EndsDrawing read is ends asked name bytes out out' err err' status
   nothing_shown : (f : F) → read bytes ≡ Ok f → ends f ≤ asked.from → IsUntouched out out' → TriesToWrite err err' (nothing_shown_line asked.from (ends f))
-      → EndsDrawing read is ends asked bytes out out' err err' 2
+      → EndsDrawing read is ends asked name bytes out out' err err' 2
 
 -- a command that draws the ticks of each file that are asked for, as far as the run of the file has them
 abbrev pub drawing_command : {F : Type 0} → (List ℕ → Result F FileFault) → (F → List ℕ → Type 0) → (F → ℕ) → Window → Command F

@@ -88,7 +88,7 @@ pub fn check_bytes_within<O: ByteOutput, E: ByteOutput>(
 ) -> u8
     requires out { MayWrite (O.state out.old) }
     requires err { MayWrite (E.state err.old) }
-    ensures { EndsPrinting any_file IsCheckText (λ f. IsUntouched) bytes.now
+    ensures { EndsPrinting any_file IsCheckText (λ f. IsUntouched) name.now bytes.now
         (O.state out.old) (O.state out.new) (E.state err.old) (E.state err.new) result }
 {
     let ended = check(alloc, memory, bytes, out);

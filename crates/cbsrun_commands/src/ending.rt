@@ -93,7 +93,7 @@ fn write_explained<E: ByteOutput>(
     err: &mut E,
 )
     requires { MayWrite (E.state err.old) }
-    ensures explained { Explains fault (E.state err.old) (E.state err.new) }
+    ensures explained { Explains name.now bytes.now fault (E.state err.old) (E.state err.new) }
     ensures memory { fault ≡ no_memory → TriesToWrite (E.state err.old) (E.state err.new)
         (file_line no_memory) }
 {
@@ -119,7 +119,7 @@ pub(crate) fn status_of<E: ByteOutput>(
     err: &mut E,
 ) -> u8
     requires { MayWrite (E.state err.old) }
-    ensures { Tells ended (E.state err.old) (E.state err.new) result }
+    ensures { Tells name.now bytes.now ended (E.state err.old) (E.state err.new) result }
 {
     let Err(stopped) = ended else {
         return DONE;

@@ -49,7 +49,7 @@ pub fn simulate_lines_within<O: ByteOutput, E: ByteOutput>(
 ) -> u8
     requires out { MayWrite (O.state out.old) }
     requires err { MayWrite (E.state err.old) }
-    ensures { EndsPrinting load AreLoadLines (λ f. WritesSomeLines (seen_in f)) bytes.now
+    ensures { EndsPrinting load AreLoadLines (λ f. WritesSomeLines (seen_in f)) name.now bytes.now
         (O.state out.old) (O.state out.new) (E.state err.old) (E.state err.new) result }
 {
     let ended = write_steps(alloc, memory, bytes, out);

@@ -133,7 +133,7 @@ pub fn draw_load_within<P: Progress, O: ByteOutput, E: ByteOutput>(
 ) -> u8
     requires out { MayWrite (O.state out.old) }
     requires err { MayWrite (E.state err.old) }
-    ensures { EndsDrawing load (IsLoadDrawing drawing asked name.now) end_of asked bytes.now
+    ensures { EndsDrawing load (IsLoadDrawing drawing asked name.now) end_of asked name.now bytes.now
         (O.state out.old) (O.state out.new) (E.state err.old) (E.state err.new) result }
 {
     let ended = draw_load(alloc, memory, drawing, asked, name, bytes, progress, out);
@@ -157,7 +157,7 @@ pub fn draw_tasks_within<O: ByteOutput, E: ByteOutput>(
 ) -> u8
     requires out { MayWrite (O.state out.old) }
     requires err { MayWrite (E.state err.old) }
-    ensures { EndsDrawing file (IsTaskDrawing drawing asked name.now) clock_of_tasks asked bytes.now
+    ensures { EndsDrawing file (IsTaskDrawing drawing asked name.now) clock_of_tasks asked name.now bytes.now
         (O.state out.old) (O.state out.new) (E.state err.old) (E.state err.new) result }
 {
     let ended = draw_tasks(alloc, memory, drawing, asked, name, bytes, out);

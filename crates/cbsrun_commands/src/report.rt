@@ -88,7 +88,7 @@ pub fn report_bytes_within<O: ByteOutput, E: ByteOutput>(
 ) -> u8
     requires out { MayWrite (O.state out.old) }
     requires err { MayWrite (E.state err.old) }
-    ensures { EndsPrinting file (IsTaskReportText form name.now) (λ f. IsUntouched) bytes.now
+    ensures { EndsPrinting file (IsTaskReportText form name.now) (λ f. IsUntouched) name.now bytes.now
         (O.state out.old) (O.state out.new) (E.state err.old) (E.state err.new) result }
 {
     let ended = report_tasks(alloc, memory, form, name, bytes, out);
@@ -130,7 +130,7 @@ pub fn simulate_bytes_within<P: Progress, O: ByteOutput, E: ByteOutput>(
 ) -> u8
     requires out { MayWrite (O.state out.old) }
     requires err { MayWrite (E.state err.old) }
-    ensures { EndsPrinting load (IsReportText form name.now) (λ f. IsUntouched) bytes.now
+    ensures { EndsPrinting load (IsReportText form name.now) (λ f. IsUntouched) name.now bytes.now
         (O.state out.old) (O.state out.new) (E.state err.old) (E.state err.new) result }
 {
     let ended = report_load(alloc, memory, form, name, bytes, progress, out);

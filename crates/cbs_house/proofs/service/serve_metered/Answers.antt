@@ -47,7 +47,7 @@ pub returns-then-branch-clause-served : goal.returns-then-branch-clause-served
 returns-then-branch-clause-served g c =
     let f = c.in_ok-finish_round.ensures in
     let h = c.finish_round.new.house in
-    all_served g.W.Work.meaning h h.housed c.finish_round.new.feeds f.drained f.ready (f.done.0 c.if-branch.true) f.settled
+    (all_served g.W.Work.meaning h h.housed c.finish_round.new.feeds f.drained f.ready (f.done.0 c.if-branch.true) f.settled, f.drained)
 
 pub loop-preserved : goal.loop-preserved
 loop-preserved g c =
@@ -123,9 +123,6 @@ returns-in_err-finish_round-clause-stops g c = search rules
 
 pub returns-then-branch-clause-ready : goal.returns-then-branch-clause-ready
 returns-then-branch-clause-ready g c = c.finish_round.ensures.ready
-
-pub returns-then-branch-clause-drained : goal.returns-then-branch-clause-drained
-returns-then-branch-clause-drained g c = c.in_ok-finish_round.ensures.drained
 
 pub returns-clause-ready : goal.returns-clause-ready
 returns-clause-ready g c = c.loop.invariant.ready

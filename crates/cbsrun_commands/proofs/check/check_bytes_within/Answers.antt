@@ -4,5 +4,5 @@ use Rattle.cbsrun_commands.proofs.Endings.{ends_printing}
 use Rattle.cbsrun_commands.proofs.check.check_bytes_within.Goals as goal
 
 pub returns : goal.returns
-returns g c = ends_printing (printing_command any_file IsCheckText) (λ f e none. none) c.args.bytes.now _ _ _ _ c.check-ended.result c.status_of.result
+returns g c = ends_printing (printing_command any_file IsCheckText) (λ f e none. none) c.args.name.now c.args.bytes.now _ _ _ _ c.check-ended.result c.status_of.result
     c.check-ended.ensures c.status_of.ensures

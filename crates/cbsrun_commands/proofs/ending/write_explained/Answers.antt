@@ -1,4 +1,4 @@
-use Rattle.std.proofs.Common.{[], refl, inr}
+use Rattle.std.proofs.Common.{◌≡◌, [], refl, inr}
 use Rattle.cbsrun_lines.proofs.Writers.{tries, tries_below, tries_alone}
 use Rattle.cbsrun_commands.proofs.ending.write_explained.Goals as goal
 

@@ -18,7 +18,7 @@ returns-clause-results g c =
     results_are of_files c.serve.new.house c.args.file.ring (length c.args.file.plan.rates) opened.feeds.items c.serve.new.feeds _
     opened.ensures.rings opened.ensures.servers opened.ensures.jobs
     (rw c.deref_mut.ensures.value at served.feeds) (λ s. serves_handed of_files opened.house c.serve.new.house served.steps s
-    ∙ ap (λ (x : Seat FileJob). x.handed) (opened.ensures.empty s)) served.served ∙ by_server c.args.file
+    ∙ ap (λ (x : Seat FileJob). x.handed) (opened.ensures.empty s)) served.served.0 ∙ by_server c.args.file
 
 pub returns-in_err-serve-clause-stops : goal.returns-in_err-serve-clause-stops
 returns-in_err-serve-clause-stops g c =
