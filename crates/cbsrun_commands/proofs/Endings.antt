@@ -7,17 +7,13 @@ use Rattle.cbsrun_runs.specs.Tasks.{clock_of_tasks, run_of_tasks}
 use Rattle.cbsrun_command_line.specs.declared.actions.Drawing.{Drawing}
 use Rattle.cbsrun_command_line.specs.declared.actions.Form.{Form}
 use Rattle.cbsrun_commands.specs.Reported.{IsRunText, IsTaskReportText}
-use Rattle.cbsrun_window.specs.Windows.{AnswersShown}
-use Rattle.cbsrun_window.specs.declared.shown.NothingShown.{NothingShown}
 use Rattle.cbsrun_window.specs.declared.window.Window.{Window}
-use Rattle.cbsrun_tables.specs.declared.fault.FileFault.{FileFault}
-use Rattle.cbsrun_lines.specs.Writers.{Writer, IsUntouched, TriesToWrite}
+use Rattle.cbsrun_lines.specs.Writers.{Writer, IsUntouched}
 use Rattle.cbsrun_lines.specs.declared.run_error.RunError.{RunError}
 use Rattle.cbsrun_lines.specs.declared.run_error.RunError.TheVariants.{OutOfMemory, WriteFault, ClockEnd, Stalled}
-use Rattle.cbsrun_commands.specs.Commands.{Command, Does, Tells, printing_command}
-use Rattle.cbsrun_commands.specs.FaultLines.{nothing_shown_line}
-use Rattle.cbsrun_commands.specs.Pictured.{EndsDrawing, IsDrawingOf, drawing_command, printed, nothing_shown}
-use Rattle.cbsrun_commands.specs.Printing.{EndsPrinting, Prints, StopsPrinting, done, refused, stopped}
+use Rattle.cbsrun_commands.specs.Commands.{Command, Does, EndsAs, Tells, done, nothing_shown, refused, stopped}
+use Rattle.cbsrun_commands.specs.Pictured.{IsDrawingOf}
+use Rattle.cbsrun_commands.specs.Printing.{Prints, StopsPrinting}
 use Rattle.cbsrun_commands.specs.declared.ending.Stopped.{Stopped}
 use Rattle.cbsrun_commands.specs.declared.ending.Stopped.TheVariants.{Unread, Ended, Run}
 
@@ -48,24 +44,10 @@ pub drawn_of : (drawing : Drawing) (name : List ℕ) (w : Window) (r f : File) (
     → IsDrawingOf drawing (IsPictureOf name (run_of_tasks r) w) text → IsDrawingOf drawing (IsPictureOf name (run_of_tasks f) w) text
 drawn_of drawing name w r f text is drawn = subst (λ (g : File). IsDrawingOf drawing (IsPictureOf name (run_of_tasks g) w) text) is drawn
 
--- a command that always has something to show ends as one that prints a text
-pub ends_printing : {F : Type 0} (c : Command F) → ((f : F) (e : NothingShown) → c.nothing f e → ⊥) → (name bytes : List ℕ) (out out' err err' : Writer)
-    (ended : Result (Unit {0}) Stopped) (status : ℕ) → Does c bytes ended out out' → Tells name bytes ended err err' status
-    → EndsPrinting c.read c.prints c.short name bytes out out' err err' status
-ends_printing c none name bytes out out' err err' (Ok x) status d t = rw t.0 (done d.0 d.1 d.2 d.3 d.4 t.1)
-ends_printing c none name bytes out out' err err' (Err (Unread fault)) status d t = rw t.0 (refused fault d.0 d.1 t.1)
-ends_printing c none name bytes out out' err err' (Err (Ended e)) status d t = absurd (none d.0 e d.2)
-ends_printing c none name bytes out out' err err' (Err (Run error)) status d t = rw t.0 (stopped d.0 error d.1 d.2 t.1)
-
--- a command that draws ends so
-pub ends_drawing : {F : Type 0} (read : List ℕ → Result F FileFault) (is : F → List ℕ → Type 0) (ends : F → ℕ) (asked : Window)
-    (name bytes : List ℕ) (out out' err err' : Writer) (ended : Result (Unit {0}) Stopped) (status : ℕ) → Does (drawing_command read is ends asked) bytes ended out out'
-    → Tells name bytes ended err err' status → EndsDrawing read is ends asked name bytes out out' err err' status
-ends_drawing read is ends asked name bytes out out' err err' (Ok x) status d t = rw t.0 (printed 0 (done d.0 d.1 d.2 d.3 d.4 t.1))
-ends_drawing read is ends asked name bytes out out' err err' (Err (Unread fault)) status d t = rw t.0 (printed 3 (refused fault d.0 d.1 t.1))
-ends_drawing read is ends asked name bytes out out' err err' (Err (Ended e)) status d t =
-    let from : e.from ≡ asked.from = ap (λ (x : NothingShown). x.from) d.2.1 in
-    let end : e.end ≡ ends d.0 = ap (λ (x : NothingShown). x.end) d.2.1 in
-    let told : TriesToWrite err err' (nothing_shown_line asked.from (ends d.0)) = rw (← from, ← end) t.1 in
-    rw t.0 (nothing_shown d.0 d.1 d.2.0 d.3 told)
-ends_drawing read is ends asked name bytes out out' err err' (Err (Run error)) status d t = rw t.0 (printed 4 (stopped d.0 error d.1 d.2 t.1))
+-- a command ends as it did, and as it was told
+pub ends : {F : Type 0} (c : Command F) (name bytes : List ℕ) (out out' err err' : Writer) (ended : Result (Unit {0}) Stopped) (status : ℕ)
+    → Does c bytes ended out out' → Tells name bytes ended err err' status → EndsAs c name bytes out out' err err' status
+ends c name bytes out out' err err' (Ok x) status d t = rw t.0 (done d.0 d.1 d.2 d.3 d.4 t.1)
+ends c name bytes out out' err err' (Err (Unread fault)) status d t = rw t.0 (refused fault d.0 d.1 t.1)
+ends c name bytes out out' err err' (Err (Ended e)) status d t = rw t.0 (nothing_shown d.0 e d.1 d.2 d.3 t.1)
+ends c name bytes out out' err err' (Err (Run error)) status d t = rw t.0 (stopped d.0 error d.1 d.2 t.1)

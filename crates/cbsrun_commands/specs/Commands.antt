@@ -1,4 +1,4 @@
--- What a command on a file leaves on its writers, by its result; for the code alone.
+-- What a command on a file leaves on its writers, by its result and by its status.
 use Rattle.std.specs.Prelude.{◌≡◌, ◌⊎◌, ℕ, List, Result, Ok, Err}
 use Rattle.cbsrun_window.specs.declared.shown.NothingShown.{NothingShown}
 use Rattle.cbsrun_tables.specs.Documents.{no_memory}
@@ -6,6 +6,7 @@ use Rattle.cbsrun_tables.specs.declared.fault.FileFault.{FileFault}
 use Rattle.cbsrun_lines.specs.Writers.{Writer, IsUntouched, Writes, TriesToWrite}
 use Rattle.cbsrun_commands.specs.FaultLines.{run_line, nothing_shown_line}
 use Rattle.cbsrun_commands.specs.Printing.{Explains, StopsPrinting}
+use Rattle.cbsrun_lines.specs.declared.run_error.RunError.{RunError}
 use Rattle.cbsrun_commands.specs.declared.ending.Stopped.{Stopped}
 use Rattle.cbsrun_commands.specs.declared.ending.Stopped.TheVariants.{Unread, Ended, Run}
 
@@ -34,3 +35,16 @@ Tells name bytes (Ok x) old new status = (status ≡ 0) × IsUntouched old new
 Tells name bytes (Err (Unread fault)) old new status = (status ≡ 3) × Explains name bytes fault old new
 Tells name bytes (Err (Ended e)) old new status = (status ≡ 2) × TriesToWrite old new (nothing_shown_line e.from e.end)
 Tells name bytes (Err (Run error)) old new status = (status ≡ 4) × TriesToWrite old new (run_line error)
+
+-- A command on the file with this name and these bytes ended with this status, and left out and err so. At 0 a text is
+-- printed, whole. At 2 there is nothing to show. At 3 the bytes spell no such file, or memory was refused. At 4 the run
+-- ended early
+pub data EndsAs {F : Type 0} (c : Command F) (name bytes : List ℕ) (out out' err err' : Writer) : ℕ → Type 0 where
+  done : (f : F) (text : List ℕ) → c.read bytes ≡ Ok f → c.prints f text → Writes out out' text → IsUntouched err err'
+      → EndsAs c name bytes out out' err err' 0
+  nothing_shown : (f : F) (e : NothingShown) → c.read bytes ≡ Ok f → c.nothing f e → IsUntouched out out'
+      → TriesToWrite err err' (nothing_shown_line e.from e.end) → EndsAs c name bytes out out' err err' 2
+  refused : (fault : FileFault) → (fault ≡ no_memory) ⊎ (c.read bytes ≡ Err fault) → IsUntouched out out' → Explains name bytes fault err err'
+      → EndsAs c name bytes out out' err err' 3
+  stopped : (f : F) (error : RunError) → c.read bytes ≡ Ok f → StopsPrinting (c.prints f) (c.short f) error out out'
+      → TriesToWrite err err' (run_line error) → EndsAs c name bytes out out' err err' 4

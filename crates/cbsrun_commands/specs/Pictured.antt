@@ -1,10 +1,12 @@
 -- The pictures that are drawn of loads and of task files.
-use Rattle.std.specs.Prelude.{◌≡◌, ℕ, ◌≤◌, List, Result, Ok, Err}
+use Rattle.std.specs.Prelude.{◌≡◌, ℕ, List, Result, Ok, Err}
 use Rattle.cbsrun_chart.specs.declared.picture.Picture.{Picture}
 use Rattle.cbsrun_window.specs.declared.window.Window.{Window}
+use Rattle.cbsrun_tasks.specs.Spelling.{file}
 use Rattle.cbsrun_tasks.specs.TaskFiles.{File}
-use Rattle.cbsrun_lines.specs.Writers.{Writer, IsUntouched, TriesToWrite}
+use Rattle.cbsrun_lines.specs.Writers.{IsUntouched}
 use Rattle.cbsrun_loads.specs.Loads.{LoadFile}
+use Rattle.cbsrun_loads.specs.Spelling.{load}
 use Rattle.cbsrun_window.specs.Windows.{AnswersShown}
 use Rattle.cbsrun_runs.specs.Loads.{run_of}
 use Rattle.cbsrun_runs.specs.Runs.{IsPictureOf}
@@ -16,8 +18,6 @@ use Rattle.cbsrun_tables.specs.declared.fault.FileFault.{FileFault}
 use Rattle.cbsrun_command_line.specs.declared.actions.Drawing.{Drawing}
 use Rattle.cbsrun_command_line.specs.declared.actions.Drawing.TheVariants.{Svg, Text, Trace}
 use Rattle.cbsrun_commands.specs.Commands.{Command}
-use Rattle.cbsrun_commands.specs.FaultLines.{nothing_shown_line}
-use Rattle.cbsrun_commands.specs.Printing.{EndsPrinting}
 
 -- the text is a picture in this drawing
 abbrev pub IsDrawn : Drawing → Picture → List ℕ → Type 0
@@ -46,16 +46,14 @@ IsTaskDrawing drawing asked name f text = DrawsShown drawing (IsPictureOf name (
 abbrev pub end_of : LoadFile → ℕ
 end_of f = f.until
 
--- a command that draws the file which the bytes spell by `read` ended with this status, and left out and err so. It
--- ended as a command that prints a text, or with 2 if the run has none of the ticks that are asked for
-pub data EndsDrawing {F : Type 0} (read : List ℕ → Result F FileFault) (is : F → List ℕ → Type 0) (ends : F → ℕ) (asked : Window)
-    (name bytes : List ℕ) (out out' err err' : Writer) : ℕ → Type 0 where
-  printed : (status : ℕ) → EndsPrinting read is (λ f. IsUntouched) name bytes out out' err err' status
-      → EndsDrawing read is ends asked name bytes out out' err err' status
-  nothing_shown : (f : F) → read bytes ≡ Ok f → ends f ≤ asked.from → IsUntouched out out' → TriesToWrite err err' (nothing_shown_line asked.from (ends f))
-      → EndsDrawing read is ends asked name bytes out out' err err' 2
-
 -- a command that draws the ticks of each file that are asked for, as far as the run of the file has them
 abbrev pub drawing_command : {F : Type 0} → (List ℕ → Result F FileFault) → (F → List ℕ → Type 0) → (F → ℕ) → Window → Command F
 drawing_command read is ends asked =
     record { read = read; prints = is; short = λ f. IsUntouched; nothing = λ f e. AnswersShown asked (ends f) (Err e) }
+
+-- the command that draws a load, and the one that draws a task file
+abbrev pub load_drawing : Drawing → Window → List ℕ → Command LoadFile
+load_drawing drawing asked name = drawing_command load (IsLoadDrawing drawing asked name) end_of asked
+
+abbrev pub task_drawing : Drawing → Window → List ℕ → Command File
+task_drawing drawing asked name = drawing_command file (IsTaskDrawing drawing asked name) clock_of_tasks asked

@@ -1,11 +1,10 @@
--- What a command that prints a text of a file leaves on its writers, by its status.
-use Rattle.std.specs.Prelude.{◌≡◌, ◌⊎◌, ℕ, List, [], ◌∷◌, ◌++◌, Result, Ok, Err}
+-- What a command that prints a text of a file leaves on its writers.
+use Rattle.std.specs.Prelude.{◌≡◌, ℕ, List, [], ◌∷◌, ◌++◌, Result, Ok, Err}
 use Rattle.cbsrun_fault_texts.specs.Refusals.{ExplainsRefusal}
-use Rattle.cbsrun_commands.specs.FaultLines.{file_line, run_line}
+use Rattle.cbsrun_commands.specs.FaultLines.{file_line}
 use Rattle.cbsrun_lines.specs.Writers.{Writer, IsUntouched, Writes, FailsToWrite, TriesToWrite}
 use Rattle.cbsrun_lines.specs.declared.run_error.RunError.{RunError}
 use Rattle.cbsrun_lines.specs.declared.run_error.RunError.TheVariants.{OutOfMemory, WriteFault, ClockEnd, Stalled}
-use Rattle.cbsrun_tables.specs.Documents.{no_memory}
 use Rattle.cbsrun_tables.specs.declared.fault.FileFault.{FileFault}
 
 -- what a command that prints a text left at an error. If out of memory, that is what `short` says. If a write failed, a
@@ -31,14 +30,3 @@ StandsBelow name bytes fault (byte ∷ text) = (byte ≡ 10) × ExplainsRefusal 
 -- the line of a fault was written, and what stands below it; or a call failed, and a prefix of both was written
 abbrev pub Explains : List ℕ → List ℕ → FileFault → Writer → Writer → Type 0
 Explains name bytes fault old new = (below : List ℕ) × StandsBelow name bytes fault below × TriesToWrite old new (file_line fault ++ below)
-
--- a command that prints a text of the file which the bytes spell by `read` ended with this status, and left out and err
--- so. The explanation of a fault names the file `name`
-pub data EndsPrinting {F : Type 0} (read : List ℕ → Result F FileFault) (is : F → List ℕ → Type 0) (short : F → Writer → Writer → Type 0)
-    (name bytes : List ℕ) (out out' err err' : Writer) : ℕ → Type 0 where
-  done : (f : F) (text : List ℕ) → read bytes ≡ Ok f → is f text → Writes out out' text → IsUntouched err err'
-      → EndsPrinting read is short name bytes out out' err err' 0
-  refused : (fault : FileFault) → (fault ≡ no_memory) ⊎ (read bytes ≡ Err fault) → IsUntouched out out' → Explains name bytes fault err err'
-      → EndsPrinting read is short name bytes out out' err err' 3
-  stopped : (f : F) (error : RunError) → read bytes ≡ Ok f → StopsPrinting (is f) (short f) error out out' → TriesToWrite err err' (run_line error)
-      → EndsPrinting read is short name bytes out out' err err' 4

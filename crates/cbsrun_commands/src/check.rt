@@ -4,9 +4,8 @@ ghost use Rattle.std.specs.Prelude.{◌≡◌, IfOk, string_bytes};
 ghost use Rattle.cbsrun_tables.specs.Documents.{no_memory};
 ghost use Rattle.cbsrun_tables.specs.Fields.{Gives};
 ghost use Rattle.cbsrun_commands.specs.Checked.{any_file, IsCheckText};
-ghost use Rattle.cbsrun_commands.specs.Commands.{Does, printing_command};
-ghost use Rattle.cbsrun_commands.specs.Printing.{EndsPrinting};
-ghost use Rattle.cbsrun_lines.specs.Writers.{IsUntouched, MayWrite};
+ghost use Rattle.cbsrun_commands.specs.Commands.{Does, EndsAs, printing_command};
+ghost use Rattle.cbsrun_lines.specs.Writers.{MayWrite};
 
 use crate::ending::{Stopped, print, status_of};
 use crate::reading::{load_file, task_file};
@@ -88,7 +87,7 @@ pub fn check_bytes_within<O: ByteOutput, E: ByteOutput>(
 ) -> u8
     requires out { MayWrite (O.state out.old) }
     requires err { MayWrite (E.state err.old) }
-    ensures { EndsPrinting any_file IsCheckText (λ f. IsUntouched) name.now bytes.now
+    ensures { EndsAs (printing_command any_file IsCheckText) name.now bytes.now
         (O.state out.old) (O.state out.new) (E.state err.old) (E.state err.new) result }
 {
     let ended = check(alloc, memory, bytes, out);

@@ -1,10 +1,6 @@
 //! The lines of the steps of a load: from its bytes to a status.
 
-ghost use Rattle.cbsrun_loads.specs.Spelling.{load};
-ghost use Rattle.cbsrun_runs.specs.Loads.{seen_in};
-ghost use Rattle.cbsrun_lines.specs.Traces.{AreLoadLines, WritesSomeLines};
-ghost use Rattle.cbsrun_commands.specs.Commands.{Does};
-ghost use Rattle.cbsrun_commands.specs.Printing.{EndsPrinting};
+ghost use Rattle.cbsrun_commands.specs.Commands.{Does, EndsAs};
 ghost use Rattle.cbsrun_commands.specs.Stepped.{lines_command};
 ghost use Rattle.cbsrun_lines.specs.Writers.{MayWrite};
 
@@ -49,7 +45,7 @@ pub fn simulate_lines_within<O: ByteOutput, E: ByteOutput>(
 ) -> u8
     requires out { MayWrite (O.state out.old) }
     requires err { MayWrite (E.state err.old) }
-    ensures { EndsPrinting load AreLoadLines (λ f. WritesSomeLines (seen_in f)) name.now bytes.now
+    ensures { EndsAs lines_command name.now bytes.now
         (O.state out.old) (O.state out.new) (E.state err.old) (E.state err.new) result }
 {
     let ended = write_steps(alloc, memory, bytes, out);

@@ -1,12 +1,8 @@
 //! Pictures of loads and task files: from their bytes to a status.
 
 ghost use Rattle.std.specs.Prelude.{◌≤◌, IfOk, length, string_bytes};
-ghost use Rattle.cbsrun_tasks.specs.Spelling.{file};
-ghost use Rattle.cbsrun_loads.specs.Spelling.{load};
-ghost use Rattle.cbsrun_runs.specs.Tasks.{clock_of_tasks};
-ghost use Rattle.cbsrun_commands.specs.Commands.{Does};
-ghost use Rattle.cbsrun_commands.specs.Pictured.{drawing_command, end_of, EndsDrawing};
-ghost use Rattle.cbsrun_commands.specs.Pictured.{IsDrawingOf, IsDrawn, IsLoadDrawing, IsTaskDrawing};
+ghost use Rattle.cbsrun_commands.specs.Commands.{Does, EndsAs};
+ghost use Rattle.cbsrun_commands.specs.Pictured.{load_drawing, task_drawing, IsDrawingOf, IsDrawn};
 ghost use Rattle.cbsrun_commands.specs.Printing.{Prints};
 ghost use Rattle.cbsrun_runs.specs.Runs.{IsPictureOf};
 ghost use Rattle.cbsrun_lines.specs.Writers.{MayWrite};
@@ -66,9 +62,8 @@ fn draw_load<P: Progress, O: ByteOutput>(
     out: &mut O,
 ) -> Result<(), Stopped>
     requires { MayWrite (O.state out.old) }
-    ensures { Does (drawing_command load (IsLoadDrawing drawing asked name.now) end_of asked)
-        bytes.now result
-        (O.state out.old) (O.state out.new) }
+    ensures { Does (load_drawing drawing asked name.now) bytes.now result (O.state out.old)
+        (O.state out.new) }
 {
     let mut load = load_file(alloc, memory, bytes)?;
     let window = shown_of(asked, load.until())?;
@@ -88,9 +83,8 @@ fn draw_tasks<O: ByteOutput>(
     out: &mut O,
 ) -> Result<(), Stopped>
     requires { MayWrite (O.state out.old) }
-    ensures { Does (drawing_command file (IsTaskDrawing drawing asked name.now) clock_of_tasks
-        asked) bytes.now result
-        (O.state out.old) (O.state out.new) }
+    ensures { Does (task_drawing drawing asked name.now) bytes.now result (O.state out.old)
+        (O.state out.new) }
 {
     let first = task_file(alloc, memory, bytes)?;
     let end = clock_of(alloc, first)?;
@@ -133,7 +127,7 @@ pub fn draw_load_within<P: Progress, O: ByteOutput, E: ByteOutput>(
 ) -> u8
     requires out { MayWrite (O.state out.old) }
     requires err { MayWrite (E.state err.old) }
-    ensures { EndsDrawing load (IsLoadDrawing drawing asked name.now) end_of asked name.now bytes.now
+    ensures { EndsAs (load_drawing drawing asked name.now) name.now bytes.now
         (O.state out.old) (O.state out.new) (E.state err.old) (E.state err.new) result }
 {
     let ended = draw_load(alloc, memory, drawing, asked, name, bytes, progress, out);
@@ -157,7 +151,7 @@ pub fn draw_tasks_within<O: ByteOutput, E: ByteOutput>(
 ) -> u8
     requires out { MayWrite (O.state out.old) }
     requires err { MayWrite (E.state err.old) }
-    ensures { EndsDrawing file (IsTaskDrawing drawing asked name.now) clock_of_tasks asked name.now bytes.now
+    ensures { EndsAs (task_drawing drawing asked name.now) name.now bytes.now
         (O.state out.old) (O.state out.new) (E.state err.old) (E.state err.new) result }
 {
     let ended = draw_tasks(alloc, memory, drawing, asked, name, bytes, out);

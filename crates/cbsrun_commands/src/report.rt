@@ -3,10 +3,10 @@
 ghost use Rattle.std.specs.Prelude.{◌≡◌, ◌≤◌, IfOk, length, string_bytes};
 ghost use Rattle.cbsrun_tasks.specs.Spelling.{file};
 ghost use Rattle.cbsrun_loads.specs.Spelling.{load};
-ghost use Rattle.cbsrun_commands.specs.Commands.{Does, printing_command};
-ghost use Rattle.cbsrun_commands.specs.Printing.{EndsPrinting, Prints};
+ghost use Rattle.cbsrun_commands.specs.Commands.{Does, EndsAs, printing_command};
+ghost use Rattle.cbsrun_commands.specs.Printing.{Prints};
 ghost use Rattle.cbsrun_commands.specs.Reported.{IsReportText, IsRunText, IsTaskReportText, text_in};
-ghost use Rattle.cbsrun_lines.specs.Writers.{IsUntouched, MayWrite};
+ghost use Rattle.cbsrun_lines.specs.Writers.{MayWrite};
 
 use crate::ending::{Stopped, print, status_of};
 use crate::reading::{load_file, task_file};
@@ -88,7 +88,7 @@ pub fn report_bytes_within<O: ByteOutput, E: ByteOutput>(
 ) -> u8
     requires out { MayWrite (O.state out.old) }
     requires err { MayWrite (E.state err.old) }
-    ensures { EndsPrinting file (IsTaskReportText form name.now) (λ f. IsUntouched) name.now bytes.now
+    ensures { EndsAs (printing_command file (IsTaskReportText form name.now)) name.now bytes.now
         (O.state out.old) (O.state out.new) (E.state err.old) (E.state err.new) result }
 {
     let ended = report_tasks(alloc, memory, form, name, bytes, out);
@@ -130,7 +130,7 @@ pub fn simulate_bytes_within<P: Progress, O: ByteOutput, E: ByteOutput>(
 ) -> u8
     requires out { MayWrite (O.state out.old) }
     requires err { MayWrite (E.state err.old) }
-    ensures { EndsPrinting load (IsReportText form name.now) (λ f. IsUntouched) name.now bytes.now
+    ensures { EndsAs (printing_command load (IsReportText form name.now)) name.now bytes.now
         (O.state out.old) (O.state out.new) (E.state err.old) (E.state err.new) result }
 {
     let ended = report_load(alloc, memory, form, name, bytes, progress, out);

@@ -45,6 +45,12 @@ part_ends old mid new part more left text is so_far (front, rest, wrote, parts) 
     sym so_far.2 ∙ (ap (λ t. so_far.0 ++ t) (whole ∙ append_assoc front rest more) ∙ sym (append_assoc so_far.0 front (rest ++ more))) in
     (so_far.0 ++ front, rest ++ more, Appends-then old mid new so_far.0 front so_far.1 wrote, regrouped)
 
+-- if nothing is left, all is written
+pub part_done : (old now : Option (List ℕ)) (left text : List ℕ) → left ≡ [] → AppendsAllBut old now left text → Appends old now text
+part_done old now left text none so_far =
+    let all : so_far.0 ≡ text = sym (append-nil so_far.0) ∙ (ap (λ t. so_far.0 ++ t) (sym none) ∙ so_far.2) in
+    rw (← all) so_far.1
+
 -- one more part at the end waits
 pub waits_too : (old now : Option (List ℕ)) (waiting text part : List ℕ) → AppendsAllBut old now waiting text
     → AppendsAllBut old now (waiting ++ part) (text ++ part)

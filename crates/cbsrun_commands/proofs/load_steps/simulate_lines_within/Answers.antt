@@ -1,7 +1,7 @@
 use Rattle.cbsrun_commands.specs.Stepped.{lines_command}
-use Rattle.cbsrun_commands.proofs.Endings.{ends_printing}
+use Rattle.cbsrun_commands.proofs.Endings.{ends}
 use Rattle.cbsrun_commands.proofs.load_steps.simulate_lines_within.Goals as goal
 
 pub returns : goal.returns
-returns g c = ends_printing lines_command (λ f e none. none) c.args.name.now c.args.bytes.now _ _ _ _ c.write_steps-ended.result c.status_of.result
+returns g c = ends lines_command c.args.name.now c.args.bytes.now _ _ _ _ c.write_steps-ended.result c.status_of.result
     c.write_steps-ended.ensures c.status_of.ensures

@@ -1,8 +1,7 @@
-use Rattle.cbsrun_loads.specs.Spelling.{load}
-use Rattle.cbsrun_commands.specs.Pictured.{end_of, IsLoadDrawing}
-use Rattle.cbsrun_commands.proofs.Endings.{ends_drawing}
+use Rattle.cbsrun_commands.specs.Pictured.{load_drawing}
+use Rattle.cbsrun_commands.proofs.Endings.{ends}
 use Rattle.cbsrun_commands.proofs.pictures.draw_load_within.Goals as goal
 
 pub returns : goal.returns
-returns g c = ends_drawing load (IsLoadDrawing c.args.drawing c.args.asked c.args.name.now) end_of c.args.asked c.args.name.now c.args.bytes.now _ _ _ _ c.draw_load-ended.result
-    c.status_of.result c.draw_load-ended.ensures c.status_of.ensures
+returns g c = ends (load_drawing c.args.drawing c.args.asked c.args.name.now) c.args.name.now c.args.bytes.now _ _ _ _ c.draw_load-ended.result c.status_of.result
+    c.draw_load-ended.ensures c.status_of.ensures

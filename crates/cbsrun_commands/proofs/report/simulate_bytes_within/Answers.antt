@@ -1,9 +1,9 @@
 use Rattle.cbsrun_loads.specs.Spelling.{load}
 use Rattle.cbsrun_commands.specs.Commands.{printing_command}
 use Rattle.cbsrun_commands.specs.Reported.{IsReportText}
-use Rattle.cbsrun_commands.proofs.Endings.{ends_printing}
+use Rattle.cbsrun_commands.proofs.Endings.{ends}
 use Rattle.cbsrun_commands.proofs.report.simulate_bytes_within.Goals as goal
 
 pub returns : goal.returns
-returns g c = ends_printing (printing_command load (IsReportText c.args.form c.args.name.now)) (λ f e none. none) c.args.name.now c.args.bytes.now _ _ _ _
-    c.report_load-ended.result c.status_of.result c.report_load-ended.ensures c.status_of.ensures
+returns g c = ends (printing_command load (IsReportText c.args.form c.args.name.now)) c.args.name.now c.args.bytes.now _ _ _ _ c.report_load-ended.result c.status_of.result
+    c.report_load-ended.ensures c.status_of.ensures
