@@ -34,6 +34,10 @@ pub same_seen : (f : LoadFile) (modes : List Mode) (plan : Planned) (backlog unt
     → (let sim = simulation modes plan backlog coming in shown loading job_of sim (moves_of loading job_of until sim) [] ≡ seen_in f)
 same_seen f modes plan backlog until coming b c d e g = rw (b, c, d, e, g) refl
 
+-- figures with the same budgets up to the same tick
+pub same_figures : (bs cs : List ℕ) (m n : ℕ) (seen : List Seen) (fs : List Figures) → bs ≡ cs → m ≡ n → AreAllFigures bs m seen fs → AreAllFigures cs n seen fs
+same_figures bs cs m n seen fs b e h = rw (← b, ← e) h
+
 -- a view that saw no step
 pub saw_none : {S : Type 0} (saw failed : S → S → List Seen → Type 0) (first now : S) (steps : List Seen) → saw first now []
     → SawSome saw failed first now steps
