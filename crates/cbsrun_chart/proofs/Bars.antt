@@ -31,9 +31,9 @@ use Rattle.cbsrun_chart.proofs.Rows.{AreRowCharts, charts_count, chart_at}
 use Rattle.cbsrun_chart.proofs.Ticks.{ticks_covered}
 
 -- a server that is throttled or waits runs no unit
-not_held : (j t : ℕ) (b x : Bool) → (same_kind (cond b kind.Held kind.Resting) (kind.Runs j) && x) ≡ false
-not_held j t true x = refl
-not_held j t false x = refl
+not_throttled : (j t : ℕ) (b x : Bool) → (same_kind (cond b kind.Throttled kind.Resting) (kind.Runs j) && x) ≡ false
+not_throttled j t true x = refl
+not_throttled j t false x = refl
 
 or_none : (x a b : Bool) → a ≡ false → b ≡ false → ((x || a) || b) ≡ x
 or_none true a b e f = refl
@@ -47,7 +47,7 @@ bars_until w j t (Some l) to s a b =
     with_covers w (kind.Runs j) t (waiting_stretch l to) (with_stretch w (throttled_stretch l to) s) a b
     ∙ (ap (λ x. x || shows (kind.Runs j) t (waiting_stretch l to)) (with_covers w (kind.Runs j) t (throttled_stretch l to) s a b)
     ∙ or_none (is_covered (kind.Runs j) t (all_of s)) (shows (kind.Runs j) t (throttled_stretch l to)) (shows (kind.Runs j) t (waiting_stretch l to))
-    (not_held j t (has_job l.view) (takes t (throttled_stretch l to))) refl)
+    (not_throttled j t (has_job l.view) (takes t (throttled_stretch l to))) refl)
 
 and_true : (a b : Bool) → a ≡ true → b ≡ (a && b)
 and_true true b e = refl

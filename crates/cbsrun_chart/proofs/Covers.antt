@@ -19,7 +19,7 @@ same_kinds : (a b k : Kind) → same_kind a b ≡ true → same_kind a k ≡ sam
 same_kinds (kind.Runs i) (kind.Runs j) k e = let s : i ≡ j = grind (arith, nat_tests) in ap (λ n. same_kind (kind.Runs n) k) s
 same_kinds kind.Charged kind.Charged k e = refl
 same_kinds kind.Waits kind.Waits k e = refl
-same_kinds kind.Held kind.Held k e = refl
+same_kinds kind.Throttled kind.Throttled k e = refl
 same_kinds kind.Resting kind.Resting k e = refl
 same_kinds kind.Refused kind.Refused k e = refl
 same_kinds kind.Late kind.Late k e = refl

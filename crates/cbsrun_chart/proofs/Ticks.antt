@@ -51,27 +51,27 @@ module _ (k : Kind) (t to clock : ℕ) (v : ServerView) (here : clock ≤ t) (le
   abbrev last : Last
   last = record { clock = clock; view = v }
 
-  abbrev held : Bool
-  held = same_kind (throttled_stretch last to).kind k
+  abbrev throttled : Bool
+  throttled = same_kind (throttled_stretch last to).kind k
 
   abbrev waits : Bool
   waits = same_kind kind.Waits k
 
   -- throttled, before its deadline
   still_throttled : v.throttled ≡ true → ltb t v.deadline ≡ true
-      → (shows k t (throttled_stretch last to) || shows k t (waiting_stretch last to)) ≡ (ltb t to && held)
+      → (shows k t (throttled_stretch last to) || shows k t (waiting_stretch last to)) ≡ (ltb t to && throttled)
   still_throttled y d =
       let a : takes t (throttled_stretch last to) ≡ ltb t to = rw y (grind (arith, nat_tests)) in
       let b : takes t (waiting_stretch last to) ≡ false = rw y (elim (cases_Bool (has_job v)) [
         | inl j ↦ rw j (grind (arith, nat_tests))
         | inr n ↦ rw n (grind (arith, nat_tests))
       ]) in
-      rw (a, b) (first_of held waits (ltb t to))
+      rw (a, b) (first_of throttled waits (ltb t to))
 
   -- not throttled, or no more
   module _ (y : (v.throttled && ltb t v.deadline) ≡ false) where
-    not_held : takes t (throttled_stretch last to) ≡ false
-    not_held = elim (cases_Bool v.throttled) [
+    not_throttled : takes t (throttled_stretch last to) ≡ false
+    not_throttled = elim (cases_Bool v.throttled) [
       | inl h ↦ rw h (let d : ltb t v.deadline ≡ false = (rw h refl) ∙ y in grind (arith, nat_tests))
       | inr h ↦ rw h (grind (arith, nat_tests))
     ]
@@ -82,12 +82,12 @@ module _ (k : Kind) (t to clock : ℕ) (v : ServerView) (here : clock ≤ t) (le
           | inl h ↦ rw (h, j) (let d : ltb t v.deadline ≡ false = (rw h refl) ∙ y in grind (arith, nat_tests))
           | inr h ↦ rw (h, j) (grind (arith, nat_tests))
         ] in
-        rw (not_held, b) (second_of held waits (ltb t to))
+        rw (not_throttled, b) (second_of throttled waits (ltb t to))
 
     now_rests : has_job v ≡ false → (shows k t (throttled_stretch last to) || shows k t (waiting_stretch last to)) ≡ (ltb t to && false)
     now_rests j =
         let b : takes t (waiting_stretch last to) ≡ false = rw j (grind (arith, nat_tests)) in
-        rw (not_held, b) (neither held waits (ltb t to))
+        rw (not_throttled, b) (neither throttled waits (ltb t to))
 
   shown_takes : (shows k t (throttled_stretch last to) || shows k t (waiting_stretch last to)) ≡ (ltb t to && is_kind k (kind_shown v t))
   shown_takes = elim (cases_Bool (v.throttled && ltb t v.deadline)) [

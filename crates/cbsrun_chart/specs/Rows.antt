@@ -34,7 +34,7 @@ throttled_until v from to = if v.throttled then max (min v.deadline to) from els
 
 -- the ticks up to `to` in which the server is throttled
 abbrev pub throttled_stretch : Last → ℕ → Stretch
-throttled_stretch l to = record { kind = if has_job l.view then kind.Held else kind.Resting; from = l.clock; to = throttled_until l.view l.clock to }
+throttled_stretch l to = record { kind = if has_job l.view then kind.Throttled else kind.Resting; from = l.clock; to = throttled_until l.view l.clock to }
 
 -- the ticks up to `to` in which the server has a job, is not throttled, and does not run
 abbrev pub waiting_stretch : Last → ℕ → Stretch

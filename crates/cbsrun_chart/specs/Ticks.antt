@@ -12,7 +12,7 @@ use Rattle.cbsrun_chart.specs.Rows.{has_job, kind_of}
 -- with none. Otherwise it waits, if it has a job, and else it does nothing
 abbrev pub kind_shown : ServerView → ℕ → Option Kind
 kind_shown v t =
-    if v.throttled && ltb t v.deadline then Some (if has_job v then kind.Held else kind.Resting)
+    if v.throttled && ltb t v.deadline then Some (if has_job v then kind.Throttled else kind.Resting)
     else if has_job v then Some kind.Waits
     else None
 

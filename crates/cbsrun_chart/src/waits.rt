@@ -48,7 +48,7 @@ impl Last {
         ensures { result ≡ throttled_stretch self.now to }
     {
         let kind = if has_job(&self.view) {
-            Kind::Held
+            Kind::Throttled
         } else {
             Kind::Resting
         };

@@ -1,5 +1,6 @@
 pub mod Checked
 pub mod Commands
+pub mod Environment
 pub mod FaultLines
 pub mod JobsByServer
 pub mod Pictured
@@ -12,11 +13,6 @@ pub mod Stepped
 pub mod Verbs
 -- what the clauses name of the libraries below
 pub use Rattle.cbs_clients.specs.Houses
-pub use Rattle.cbsrun_lines.specs.Traces
 pub use Rattle.cbsrun_lines.specs.Writers
 pub use Rattle.cbsrun_lines.specs.declared.run_error.RunError
-pub use Rattle.cbsrun_loads.specs.Spelling
-pub use Rattle.cbsrun_runs.specs.Loads
-pub use Rattle.cbsrun_runs.specs.Tasks
-pub use Rattle.cbsrun_tasks.specs.Spelling as TasksSpelling
 pub use Rattle.cbsrun_tasks.specs.TaskFiles

@@ -1,8 +1,9 @@
 //! A bound on memory, as an environment variable gives it.
 
-ghost use Rattle.std.specs.Prelude.{ℕ, ◌*◌, ◌^◌, ◌-◌, ◌<◌, min};
+ghost use Rattle.std.specs.Prelude.{◌*◌, ◌^◌, ◌-◌, ◌<◌, min};
 ghost use Rattle.std.specs.Result.{OkIff};
-ghost use Rattle.std.specs.Str.Parse.{IsNumeral, digits_value, without_leading_plus};
+ghost use Rattle.std.specs.Str.Parse.{IsNumeral};
+ghost use Rattle.cbsrun_commands.specs.Environment.{digits, number_in};
 
 use std::num::ParseIntError;
 
@@ -16,9 +17,8 @@ const MEBIBYTE: u64 = 1_048_576;
 /// Refuses a text that is no such number, and a number of 2^64 or more.
 pub fn memory_bound(mebibytes: &str) -> Result<u64, ParseIntError>
     ensures { OkIff result
-        (IsNumeral 10 (without_leading_plus mebibytes.now)
-        × (digits_value 10 (without_leading_plus mebibytes.now) < 2 ^ 64))
-        (min (digits_value 10 (without_leading_plus mebibytes.now) * 1048576) (2 ^ 64 - 1)) }
+        (IsNumeral 10 (digits mebibytes.now) × (number_in mebibytes.now < 2 ^ 64))
+        (min (number_in mebibytes.now * 1048576) (2 ^ 64 - 1)) }
 {
     let mebibytes = mebibytes.parse::<u64>()?;
     Ok(mebibytes.saturating_mul(MEBIBYTE))

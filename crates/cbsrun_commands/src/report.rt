@@ -1,11 +1,9 @@
 //! Reports of the runs of loads and task files: from their bytes to a status.
 
 ghost use Rattle.std.specs.Prelude.{◌≡◌, ◌≤◌, IfOk, length, string_bytes};
-ghost use Rattle.cbsrun_tasks.specs.Spelling.{file};
-ghost use Rattle.cbsrun_loads.specs.Spelling.{load};
-ghost use Rattle.cbsrun_commands.specs.Commands.{Does, EndsAs, printing_command};
+ghost use Rattle.cbsrun_commands.specs.Commands.{Does, EndsAs};
 ghost use Rattle.cbsrun_commands.specs.Printing.{Prints};
-ghost use Rattle.cbsrun_commands.specs.Reported.{IsReportText, IsRunText, IsTaskReportText, text_in};
+ghost use Rattle.cbsrun_commands.specs.Reported.{load_report, task_report, IsRunText, text_in};
 ghost use Rattle.cbsrun_lines.specs.Writers.{MayWrite};
 
 use crate::ending::{Stopped, print, status_of};
@@ -58,7 +56,7 @@ fn report_tasks<O: ByteOutput>(
     out: &mut O,
 ) -> Result<(), Stopped>
     requires { MayWrite (O.state out.old) }
-    ensures { Does (printing_command file (IsTaskReportText form name.now)) bytes.now result
+    ensures { Does (task_report form name.now) bytes.now result
         (O.state out.old) (O.state out.new) }
 {
     let tasks = task_file(alloc, memory, bytes)?;
@@ -88,7 +86,7 @@ pub fn report_bytes_within<O: ByteOutput, E: ByteOutput>(
 ) -> u8
     requires out { MayWrite (O.state out.old) }
     requires err { MayWrite (E.state err.old) }
-    ensures { EndsAs (printing_command file (IsTaskReportText form name.now)) name.now bytes.now
+    ensures { EndsAs (task_report form name.now) name.now bytes.now
         (O.state out.old) (O.state out.new) (E.state err.old) (E.state err.new) result }
 {
     let ended = report_tasks(alloc, memory, form, name, bytes, out);
@@ -106,7 +104,7 @@ fn report_load<P: Progress, O: ByteOutput>(
     out: &mut O,
 ) -> Result<(), Stopped>
     requires { MayWrite (O.state out.old) }
-    ensures { Does (printing_command load (IsReportText form name.now)) bytes.now result
+    ensures { Does (load_report form name.now) bytes.now result
         (O.state out.old) (O.state out.new) }
 {
     let mut load = load_file(alloc, memory, bytes)?;
@@ -130,7 +128,7 @@ pub fn simulate_bytes_within<P: Progress, O: ByteOutput, E: ByteOutput>(
 ) -> u8
     requires out { MayWrite (O.state out.old) }
     requires err { MayWrite (E.state err.old) }
-    ensures { EndsAs (printing_command load (IsReportText form name.now)) name.now bytes.now
+    ensures { EndsAs (load_report form name.now) name.now bytes.now
         (O.state out.old) (O.state out.new) (E.state err.old) (E.state err.new) result }
 {
     let ended = report_load(alloc, memory, form, name, bytes, progress, out);

@@ -2,5 +2,4 @@ pub mod Documents
 pub mod Spots
 pub mod Refused
 -- what the clauses name of the libraries below
-pub use Rattle.cbs_rate.specs.Rate
 pub use Rattle.cbsrun_tables.specs.declared.fault.Place

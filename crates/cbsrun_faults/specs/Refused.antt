@@ -1,5 +1,5 @@
 -- A server that a plan does not take, by the document in which it stands.
-use Rattle.std.specs.Prelude.{◌≡◌, ℕ, codes, List, [], ◌∷◌, map, take, slice_get, option_map, Option, Some, None, Result, Ok, Err}
+use Rattle.std.specs.Prelude.{◌≡◌, ℕ, codes, List, [], ◌∷◌, map, take, slice_get, option_map, Option, Some, None, Result, Ok, Err, MatchOption, Vec}
 use Rattle.toml.specs.Data.{Data, Members}
 use Rattle.cbs_rate.specs.Bound.{Fraction}
 use Rattle.cbs_rate.specs.Rate.{Rate}
@@ -46,6 +46,11 @@ plan_of bound entries = plan_from (Some (record { bound = bound; rates = [] })) 
 abbrev pub AreReservations : List Data → List Rate → Type 0
 AreReservations entries rates = map reservation_of entries ≡ map Ok rates
 
+-- the reservations that all these entries spell, or none if one of them spells none
+abbrev pub TellsReservations : {A : Type 0} → List Data → Option (Vec Rate A) → Type 0
+TellsReservations entries result =
+    MatchOption result ((rates : List Rate) → ¬ (AreReservations entries rates)) (λ all. AreReservations entries all.items)
+
 -- the plan of the entries before takes them all, and refuses this reservation for that reason
 pub record IsRefused (bound : Fraction) (before : List Data) (asked : Rate) (refused : Refused) : Type 0 where
   pub reservation : refused.reservation ≡ asked
@@ -62,3 +67,8 @@ pub record IsRefusedAt (top : Members) (entries : List Data) (server : ℕ) (ref
   pub bound : bound_at top ≡ Ok refused.plan.bound
   pub entry : option_map reservation_of (slice_get entries server) ≡ Some (Ok refused.reservation)
   pub refusal : IsRefused refused.plan.bound (take server entries) refused.reservation refused
+
+-- the server as its plan refuses it, or none unless it does
+abbrev pub TellsRefused : Members → List Data → ℕ → Option Refused → Type 0
+TellsRefused top entries server result =
+    MatchOption result ((refused : Refused) → ¬ (IsRefusedAt top entries server refused)) (IsRefusedAt top entries server)

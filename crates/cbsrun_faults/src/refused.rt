@@ -1,10 +1,8 @@
 //! A server that a plan does not take.
 
-ghost use Rattle.std.specs.Prelude.{◌≡◌, List, [], map, IfOk, IfSome, IfNone, MatchOption, Some, None};
+ghost use Rattle.std.specs.Prelude.{◌≡◌, map, IfOk, IfSome, MatchOption};
 ghost use Rattle.toml.specs.View.{view, table_view};
-ghost use Rattle.cbs_rate.specs.Rate.{Rate};
-ghost use Rattle.cbsrun_faults.specs.declared.refused.Refused.{Refused as ARefused};
-ghost use Rattle.cbsrun_faults.specs.Refused.{bound_at, reservation_of, AreReservations, plan_of, IsRefused, IsNotRefused, IsRefusedAt};
+ghost use Rattle.cbsrun_faults.specs.Refused.{bound_at, reservation_of, plan_of, IsRefused, IsNotRefused, TellsRefused, TellsReservations};
 
 use crate::document::Document;
 use cbs_rate::{AdmitError, Bound, Plan, Reservation};
@@ -88,11 +86,7 @@ fn refused_after(
 /// Returns the server with this number, by the top table and the entries of `server`, or `None` unless the plan of the
 /// servers before it refuses it.
 fn refused_in(top: &Table, servers: &[Value], number: usize) -> Option<Refused>
-    ensures { let top = table_view top.now in
-        let entries = map view servers.now in
-        MatchOption result
-        ((refused : ARefused) → ¬ (IsRefusedAt top entries number refused))
-        (IsRefusedAt top entries number) }
+    ensures { TellsRefused (table_view top.now) (map view servers.now) number result }
 {
     let Some(entry) = servers.get(number) else {
         return None;
@@ -108,11 +102,8 @@ fn refused_in(top: &Table, servers: &[Value], number: usize) -> Option<Refused>
 
 /// Returns the server with this number, or `None` unless the plan of the servers before it refuses it.
 pub fn refused_at(document: Document<'_>, number: u64) -> Option<Refused>
-    ensures { let top = table_view document.entry.top.now in
-        let entries = map view document.entry.servers.now in
-        MatchOption result
-        ((refused : ARefused) → ¬ (IsRefusedAt top entries number refused))
-        (IsRefusedAt top entries number) }
+    ensures { TellsRefused (table_view document.entry.top.now)
+        (map view document.entry.servers.now) number result }
 {
     refused_in(document.top, document.servers, number as usize)
 }
@@ -122,9 +113,7 @@ pub fn reservations(
     alloc: Global,
     servers: &[Value],
 ) -> Result<Option<Vec<Reservation>>, AllocError>
-    ensures { IfOk result (λ all. MatchOption all
-        ((rates : List Rate) → ¬ (AreReservations (map view servers.now) rates))
-        (λ all. AreReservations (map view servers.now) all.items)) }
+    ensures { IfOk result (TellsReservations (map view servers.now)) }
 {
     let mut all = Vec::new(alloc);
     for entry in servers {

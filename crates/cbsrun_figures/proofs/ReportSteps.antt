@@ -13,21 +13,21 @@ use Rattle.cbsrun_events.specs.declared.seen.Event.TheVariants as event
 use Rattle.cbsrun_events.specs.declared.seen.Seen.{Seen}
 use Rattle.cbsrun_figures.specs.Figures.{is_server, steps_of, told, total}
 use Rattle.cbsrun_figures.proofs.JobSteps.{jobs_seen}
-use Rattle.cbsrun_figures.proofs.SumSteps.{sums_seen, held_seen}
-use Rattle.cbsrun_figures.specs.Tallies.{sums_of, sums_after, held_of, held_with, jobs_of, jobs_after, passed}
+use Rattle.cbsrun_figures.proofs.SumSteps.{sums_seen, throttled_ticks_seen}
+use Rattle.cbsrun_figures.specs.Tallies.{sums_of, sums_after, throttled_ticks_of, throttled_ticks_with, jobs_of, jobs_after, passed}
 use Rattle.cbsrun_figures.specs.Tallies.{Kept, kept_at, kept_of, no_kept, AreKept, AddsStep, HasSeen, Reported, ticks_idle}
 
 -- all that is kept of one server, with one step more
 pub kept_step : (k n : Kept) (budget : ℕ) (o : Seen) (own : List Seen) → k ≡ kept_of budget own → n.budget ≡ k.budget
-    → n.sums ≡ sums_after k.budget o.event o.view k.sums → n.held ≡ held_with (begun o) o.clock o.view k.held
+    → n.sums ≡ sums_after k.budget o.event o.view k.sums → n.throttled_ticks ≡ throttled_ticks_with (begun o) o.clock o.view k.throttled_ticks
     → n.jobs ≡ jobs_after o.clock o.event k.jobs → n ≡ kept_of budget (o ∷ own)
 kept_step k n budget o own is b s h j =
     let same : n.budget ≡ budget = b ∙ ap (λ x. x.budget) is in
     let sums : n.sums ≡ sums_of budget (o ∷ own) =
     s ∙ (ap (λ x. sums_after x.budget o.event o.view x.sums) is ∙ sums_seen budget o own) in
-    let held : n.held ≡ held_of (o ∷ own) = h ∙ (ap (λ x. held_with (begun o) o.clock o.view x.held) is ∙ held_seen o own) in
+    let throttled_ticks : n.throttled_ticks ≡ throttled_ticks_of (o ∷ own) = h ∙ (ap (λ x. throttled_ticks_with (begun o) o.clock o.view x.throttled_ticks) is ∙ throttled_ticks_seen o own) in
     let jobs : n.jobs ≡ jobs_of (o ∷ own) = j ∙ (ap (λ x. jobs_after o.clock o.event x.jobs) is ∙ jobs_seen o own) in
-    rw (same, sums, held, jobs) refl
+    rw (same, sums, throttled_ticks, jobs) refl
 
 -- a step that is of no server, or of another
 other_step : (s : ℕ) (o : Seen) (seen : List Seen) → is_server s (server_of o.event) ≡ false → steps_of s (o ∷ seen) ≡ steps_of s seen

@@ -8,7 +8,7 @@ use Rattle.cbsrun_events.specs.declared.seen.Event.{Event}
 use Rattle.cbsrun_events.specs.declared.seen.Event.TheVariants as event
 use Rattle.cbsrun_events.specs.declared.seen.Seen.{Seen}
 use Rattle.cbsrun_figures.specs.Figures.{told, told_sum, is_used_up, throttled, waited}
-use Rattle.cbsrun_figures.specs.Tallies.{sums_of, sums_after, held_of, held_with, wait_of, waited_since}
+use Rattle.cbsrun_figures.specs.Tallies.{sums_of, sums_after, throttled_ticks_of, throttled_ticks_with, wait_of, waited_since}
 use Rattle.cbsrun_figures.specs.declared.sums.Sums.{Sums}
 
 -- a sum as a report gives it, with one number more
@@ -56,10 +56,10 @@ waits clock to None = refl
 waits clock to (Some v) = elim (cases_Bool (v.throttled && ltb v.finished v.accepted)) [ inl t ↦ rw t refl | inr f ↦ rw f refl ]
 
 -- the ticks up to a tick in which a server was throttled with a job, from what is kept of them
-pub held_until : (own : List Seen) (to : ℕ) → told ((held_of own).ticks + waited_since (held_of own).wait to) ≡ told (throttled to own)
-held_until [] to = omega arith
-held_until (o ∷ own) to = rw (waits o.clock to o.view) (told_more (throttled (begun o) own) (waited o.view o.clock to))
+pub throttled_ticks_until : (own : List Seen) (to : ℕ) → told ((throttled_ticks_of own).ticks + waited_since (throttled_ticks_of own).wait to) ≡ told (throttled to own)
+throttled_ticks_until [] to = omega arith
+throttled_ticks_until (o ∷ own) to = rw (waits o.clock to o.view) (told_more (throttled (begun o) own) (waited o.view o.clock to))
 
 -- the same with one step more
-pub held_seen : (o : Seen) (own : List Seen) → held_with (begun o) o.clock o.view (held_of own) ≡ held_of (o ∷ own)
-held_seen o own = rw (held_until own (begun o)) refl
+pub throttled_ticks_seen : (o : Seen) (own : List Seen) → throttled_ticks_with (begun o) o.clock o.view (throttled_ticks_of own) ≡ throttled_ticks_of (o ∷ own)
+throttled_ticks_seen o own = rw (throttled_ticks_until own (begun o)) refl

@@ -213,7 +213,7 @@ pub record AreFigures (budget now : ℕ) (own : List Seen) (f : Figures) : Type 
   pub asked : f.asked ≡ told (total (λ o. units_asked o.event) own)
   pub run : f.run ≡ told (total (λ o. units_run o.event) own)
   pub exhausting : f.used_up ≡ told (total (λ o. units_exhausting budget o.event o.view) own)
-  pub held : f.throttled ≡ told (throttled now own)
+  pub throttled_ticks : f.throttled ≡ told (throttled now own)
   pub charged : f.charged ≡ told (total (λ o. ticks_charged o.event) own)
   pub greatest_charge : f.greatest_charge ≡ greatest (λ o. ticks_charged o.event) own
   pub ranks : MatchOption f.responses (finished own ≡ []) (AreRanks (responses own))

@@ -11,12 +11,12 @@ use Rattle.cbsrun_events.specs.declared.seen.Event.TheVariants as event
 use Rattle.cbsrun_events.specs.declared.seen.Seen.{Seen}
 use Rattle.cbsrun_figures.specs.Figures.{AreFigures, steps_of, told, told_sum, total, greatest, refusals}
 use Rattle.cbsrun_figures.specs.Figures.{units_asked, units_run, is_used_up, units_exhausting, ticks_charged, throttled}
-use Rattle.cbsrun_figures.specs.Figures.{accepted_job, waiting, greatest_backlog, oldest_finished, put_off, newest, settled, response}
+use Rattle.cbsrun_figures.specs.Figures.{accepted_job, waiting, greatest_backlog, finished, oldest_finished, put_off, newest, settled, response}
 use Rattle.cbsrun_figures.specs.Figures.{exceeds, one_if, late_among, earliness, sum_of, least_of, lesser}
 use Rattle.cbsrun_figures.specs.declared.early.Early.{Early}
 use Rattle.cbsrun_figures.specs.declared.figures.Figures.{Figures}
-use Rattle.cbsrun_figures.specs.declared.held.Held.{Held}
-use Rattle.cbsrun_figures.specs.declared.held.Wait.{Wait}
+use Rattle.cbsrun_figures.specs.declared.throttled_ticks.ThrottledTicks.{ThrottledTicks}
+use Rattle.cbsrun_figures.specs.declared.throttled_ticks.Wait.{Wait}
 use Rattle.cbsrun_figures.specs.declared.job.AcceptedJob.{AcceptedJob}
 use Rattle.cbsrun_figures.specs.declared.job.Finish.{Finish}
 use Rattle.cbsrun_figures.specs.declared.sums.Sums.{Sums}
@@ -58,13 +58,13 @@ waited_since None to = 0
 waited_since (Some w) to = min w.deadline to - w.since
 
 -- the ticks up to its last step in which the server was throttled with a job, and the wait that goes on after that step
-abbrev pub held_of : List Seen → Held
-held_of [] = record { ticks = 0; wait = None }
-held_of (o ∷ own) = record { ticks = told (throttled (begun o) own); wait = wait_of o.clock o.view }
+abbrev pub throttled_ticks_of : List Seen → ThrottledTicks
+throttled_ticks_of [] = record { ticks = 0; wait = None }
+throttled_ticks_of (o ∷ own) = record { ticks = told (throttled (begun o) own); wait = wait_of o.clock o.view }
 
 -- the same after one more step, which began at one tick and left the clock at another
-abbrev pub held_with : ℕ → ℕ → Option ServerView → Held → Held
-held_with begun clock v h = record { ticks = told (h.ticks + waited_since h.wait begun); wait = wait_of clock v }
+abbrev pub throttled_ticks_with : ℕ → ℕ → Option ServerView → ThrottledTicks → ThrottledTicks
+throttled_ticks_with begun clock v h = record { ticks = told (h.ticks + waited_since h.wait begun); wait = wait_of clock v }
 
 -- the sums over numbers of ticks by which jobs were finished earlier than promised
 abbrev pub early_of : List ℕ → Early
@@ -105,6 +105,17 @@ tally waiting newest greatest_backlog settled = record {
 abbrev pub jobs_of : List Seen → Jobs
 jobs_of own = tally (waiting own) (newest own) (greatest_backlog own) (settled own)
 
+-- the same after the newest finished job was counted
+abbrev pub settled_jobs : List Seen → Jobs
+settled_jobs own = tally (waiting own) None (greatest_backlog own) (finished own)
+
+-- if this tally of jobs is what `of` makes of the steps of a server, and these are their sums and the ticks in which it
+-- was throttled and had a job, then these are its figures up to the tick `now`
+abbrev pub MakeFigures : (List Seen → Jobs) → ℕ → ℕ → Jobs → Sums → Figures → Type 0
+MakeFigures of now throttled_ticks jobs sums figures =
+    (budget : ℕ) (own : List Seen) → jobs ≡ of own → sums ≡ sums_of budget own → throttled_ticks ≡ told (throttled now own)
+    → AreFigures budget now own figures
+
 -- the tally after a job was accepted
 abbrev pub jobs_with : AcceptedJob → Jobs → Jobs
 jobs_with job t = record t { waiting = t.waiting ++ job ∷ []; greatest_backlog = max t.greatest_backlog (length (t.waiting ++ job ∷ [])) }
@@ -140,11 +151,11 @@ jobs_after now _ t = t
 pub record Kept : Type 0 where
   pub budget : ℕ
   pub sums : Sums
-  pub held : Held
+  pub throttled_ticks : ThrottledTicks
   pub jobs : Jobs
 
 abbrev pub kept_of : ℕ → List Seen → Kept
-kept_of budget own = record { budget = budget; sums = sums_of budget own; held = held_of own; jobs = jobs_of own }
+kept_of budget own = record { budget = budget; sums = sums_of budget own; throttled_ticks = throttled_ticks_of own; jobs = jobs_of own }
 
 -- the tally that stands for a server that does not exist
 abbrev pub no_kept : Kept

@@ -1,10 +1,8 @@
 //! The jobs of one server.
 
-ghost use Rattle.std.specs.Prelude.{◌≡◌, ℕ, List, [], IfOk, None, OnOk};
-ghost use Rattle.cbsrun_events.specs.declared.seen.Seen.{Seen};
-ghost use Rattle.cbsrun_figures.specs.Figures.{AreFigures, exceeds, finished, greatest_backlog, overdue, put_off};
-ghost use Rattle.cbsrun_figures.specs.Figures.{throttled, told, uses, waiting};
-ghost use Rattle.cbsrun_figures.specs.Tallies.{jobs_of, jobs_with, jobs_settled, jobs_after, jobs_after_run, sums_of, tally};
+ghost use Rattle.std.specs.Prelude.{◌≡◌, [], IfOk, OnOk};
+ghost use Rattle.cbsrun_figures.specs.Figures.{exceeds, overdue, put_off, uses};
+ghost use Rattle.cbsrun_figures.specs.Tallies.{jobs_of, jobs_with, jobs_settled, jobs_after, jobs_after_run, settled_jobs, MakeFigures};
 
 use crate::early::Early;
 use crate::figures::Figures;
@@ -170,11 +168,8 @@ impl<A: Allocator> JobTally<A> {
     }
 
     /// Returns the figures up to the tick `now`, if each finished job is counted. Sorts the response times.
-    fn settled_figures(&mut self, now: u64, sums: &Sums, held: u64) -> Figures
-        ensures { (budget : ℕ) (own : List Seen)
-            → self.old ≡ tally (waiting own) None (greatest_backlog own) (finished own)
-            → sums.now ≡ sums_of budget own → held ≡ told (throttled now own)
-            → AreFigures budget now own result }
+    fn settled_figures(&mut self, now: u64, sums: &Sums, throttled_ticks: u64) -> Figures
+        ensures { MakeFigures settled_jobs now throttled_ticks self.old sums.now result }
     {
         Figures {
             refused: sums.refused,
@@ -186,7 +181,7 @@ impl<A: Allocator> JobTally<A> {
             asked: sums.asked,
             run: sums.run,
             used_up: sums.used_up,
-            throttled: held,
+            throttled: throttled_ticks,
             charged: sums.charged,
             greatest_charge: sums.greatest_charge,
             response_total: self.response_total,
@@ -199,12 +194,15 @@ impl<A: Allocator> JobTally<A> {
 
     /// Returns the figures up to the tick `now`, with these sums and this many ticks in which the server was throttled
     /// and had a job. Counts the newest finished job, and sorts the response times. The only error is out of memory.
-    pub fn figures(&mut self, now: u64, sums: &Sums, held: u64) -> Result<Figures, AllocError>
-        ensures { IfOk result (λ figures. (budget : ℕ) (own : List Seen) → self.old ≡ jobs_of own
-            → sums.now ≡ sums_of budget own → held ≡ told (throttled now own)
-            → AreFigures budget now own figures) }
+    pub fn figures(
+        &mut self,
+        now: u64,
+        sums: &Sums,
+        throttled_ticks: u64,
+    ) -> Result<Figures, AllocError>
+        ensures { IfOk result (MakeFigures jobs_of now throttled_ticks self.old sums.now) }
     {
         self.settle()?;
-        Ok(self.settled_figures(now, sums, held))
+        Ok(self.settled_figures(now, sums, throttled_ticks))
     }
 }

@@ -4,13 +4,13 @@
 
 mod early;
 mod figures;
-mod held;
 mod job;
 mod jobs;
 mod ranks;
 mod report;
 mod sums;
 mod tally;
+mod throttled_ticks;
 
 pub use figures::{Figures, Ranks};
 pub use jobs::exceeds;

@@ -6,9 +6,9 @@ ghost use Rattle.cbsrun_figures.specs.Figures.{AreFigures};
 ghost use Rattle.cbsrun_figures.specs.Tallies.{kept_of};
 
 use crate::figures::Figures;
-use crate::held::Held;
 use crate::jobs::JobTally;
 use crate::sums::Sums;
+use crate::throttled_ticks::ThrottledTicks;
 use cbsrun_events::Seen;
 use std::alloc::{AllocError, Allocator, Global};
 use std::marker::Model;
@@ -18,7 +18,7 @@ use std::marker::Model;
 pub struct Tally<A: Allocator = Global> {
     budget: u64,
     sums: Sums,
-    held: Held,
+    throttled_ticks: ThrottledTicks,
     jobs: JobTally<A>,
 }
 
@@ -27,7 +27,7 @@ impl<A: Allocator> Model for Tally<A> {
 
     ghost Value = { Kept };
 
-    ghost view = { λ t. record { budget = t.budget; sums = t.sums; held = t.held; jobs = t.jobs } };
+    ghost view = { λ t. record { budget = t.budget; sums = t.sums; throttled_ticks = t.throttled_ticks; jobs = t.jobs } };
 }
 
 impl<A: Allocator + Clone> Tally<A> {
@@ -39,7 +39,7 @@ impl<A: Allocator + Clone> Tally<A> {
         Ok(Tally {
             budget,
             sums: Sums::new(),
-            held: Held::new(),
+            throttled_ticks: ThrottledTicks::new(),
             jobs,
         })
     }
@@ -54,7 +54,8 @@ impl<A: Allocator> Tally<A> {
         ensures budget { OnOk result (self.new.budget ≡ self.old.budget) }
     {
         self.sums.add(self.budget, seen.event, seen.view);
-        self.held.add(seen.begun(), seen.clock, seen.view);
+        self.throttled_ticks
+            .add(seen.begun(), seen.clock, seen.view);
         self.jobs.add(seen.clock, seen.event)
     }
 
@@ -63,7 +64,7 @@ impl<A: Allocator> Tally<A> {
         ensures { IfOk result (λ figures. (own : List Seen) → self.old ≡ kept_of self.old.budget own
             → AreFigures self.old.budget now own figures) }
     {
-        let throttled = self.held.until(now);
+        let throttled = self.throttled_ticks.until(now);
         self.jobs.figures(now, &self.sums, throttled)
     }
 }

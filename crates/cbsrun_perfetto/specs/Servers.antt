@@ -27,7 +27,7 @@ other_line thread what p = line_of p.from (slice_data what what thread p.from p.
 abbrev pub slice_of : ℕ → List ChartJob → Kind → Stretch → List LineSeen
 slice_of thread jobs (kind.Runs j) p = bar_line thread jobs j p ∷ []
 slice_of thread jobs kind.Charged p = other_line thread (codes "charged") p ∷ []
-slice_of thread jobs kind.Held p = other_line thread (codes "throttled") p ∷ []
+slice_of thread jobs kind.Throttled p = other_line thread (codes "throttled") p ∷ []
 slice_of thread jobs _ p = []
 
 -- the slices of all stretches

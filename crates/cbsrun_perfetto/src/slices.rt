@@ -46,7 +46,7 @@ fn append_slice(
     match span.kind {
         Kind::Runs(number) => append_line(lines, bar_line(alloc, thread, jobs, number, span)?),
         Kind::Charged => append_line(lines, other_line(alloc, thread, "charged", span)?),
-        Kind::Held => append_line(lines, other_line(alloc, thread, "throttled", span)?),
+        Kind::Throttled => append_line(lines, other_line(alloc, thread, "throttled", span)?),
         Kind::Waits | Kind::Resting | Kind::Refused | Kind::Late | Kind::Idle => Ok(()),
     }
 }

@@ -1,3 +1,4 @@
+pub mod Beginning
 pub mod Bounds
 pub mod Drawing
 pub mod Loading
@@ -14,6 +15,7 @@ pub mod Turns
 -- what the clauses name of the libraries below
 pub use Rattle.cbs_core.specs.Agreement
 pub use Rattle.cbs_rate.specs.Limits
+pub use Rattle.cbs_rate.specs.Refusals
 pub use Rattle.cbs_rules.specs.Rules
-pub use Rattle.cbs_steps.specs.History
+pub use Rattle.cbs_steps.specs.Setups
 pub use Rattle.cbsrun_events.specs.Steps

@@ -1,10 +1,11 @@
 //! Simulations from the start, on a core of their own.
 
-ghost use Rattle.std.specs.Prelude.{◌≡◌, ◌≤◌, [], length, IfOk, OnErr, None};
+ghost use Rattle.std.specs.Prelude.{◌≡◌, ◌≤◌, length, IfOk, OnErr};
 ghost use Rattle.cbs_rate.specs.Refusals.{RefusesByOrMemory};
-ghost use Rattle.cbs_steps.specs.Setups.{terms_of, new_refusal};
+ghost use Rattle.cbs_steps.specs.Setups.{new_refusal};
+ghost use Rattle.cbsrun_simulate.specs.Beginning.{alone, SimulatesLoad};
 ghost use Rattle.cbsrun_simulate.specs.Loading.{loading, job_of};
-ghost use Rattle.cbsrun_simulate.specs.Simulating.{SimulatesAlone, SeesSome};
+ghost use Rattle.cbsrun_simulate.specs.Simulating.{SeesSome};
 
 use crate::driver::simulate;
 use crate::load_job::LoadJob;
@@ -39,32 +40,12 @@ pub fn simulate_plan<A: Allocator + Clone, R: Releases, C, V: View<C>>(
     requires modes { length modes.now ≡ length plan.now.rates }
     requires end { until ≤ LIMIT }
     requires ready { V.ready view.old lent.old }
-    ensures simulates { IfOk result (λ core. SimulatesAlone loading job_of until V.saw
-        (record {
-          history = record {
-            setup = record {
-              servers = terms_of modes.now plan.now.rates;
-              backlog = backlog;
-            };
-            steps = [];
-          };
-          coming = R.coming releases.old;
-          owing = None;
-        })
-        core (view.old, lent.old) (view.new, lent.new)) }
+    ensures simulates { IfOk result (λ core. SimulatesLoad until V.saw
+        (alone plan.now modes.now backlog (R.coming releases.old)) core (view.old, lent.old)
+        (view.new, lent.new)) }
     ensures stopped { OnErr result (SeesSome loading job_of until V.saw V.failed
-        (record {
-          history = record {
-            setup = record {
-              servers = terms_of modes.now plan.now.rates;
-              backlog = backlog;
-            };
-            steps = [];
-          };
-          coming = R.coming releases.old;
-          owing = None;
-        })
-        (view.old, lent.old) (view.new, lent.new)) }
+        (alone plan.now modes.now backlog (R.coming releases.old)) (view.old, lent.old)
+        (view.new, lent.new)) }
     ensures refusal { RefusesByOrMemory CoreError.OutOfMemory result (new_refusal backlog) }
 {
     let mut core = Core::of(alloc, plan, modes, backlog)?;

@@ -3,6 +3,7 @@
 ghost use Rattle.std.specs.Prelude.{◌≡◌, ◌-◌, ◌≤◌, ◌<◌, true, false, List, ◌∷◌, drop, min, slice_get, Some, None, IfOk, OnOk, OnErr};
 ghost use Rattle.cbs_core.specs.Agreement.{Agrees, HasHistory};
 ghost use Rattle.cbs_steps.specs.History.{History};
+ghost use Rattle.cbsrun_simulate.specs.Beginning.{Begun};
 ghost use Rattle.cbsrun_simulate.specs.Loading.{loading, job_of};
 ghost use Rattle.cbsrun_simulate.specs.Moves.{submit, charge, Simulation, clock_of};
 ghost use Rattle.cbsrun_simulate.specs.Releases.{IsInOrder, MakesJob};
@@ -246,20 +247,12 @@ pub fn simulate<A: Allocator, R: Releases, C, V: View<C>>(
     requires order { IsInOrder core.old.clock (R.coming releases.old) }
     requires history { HasHistory loading core.old }
     requires ready { V.ready view.old lent.old }
-    ensures simulates { OnOk result ((M : History LoadJob) → Agrees loading core.old M
-        → Simulates loading job_of until V.saw (record {
-          history = M;
-          coming = R.coming releases.old;
-          owing = None;
-        })
-        core.new (view.old, lent.old) (view.new, lent.new)) }
-    ensures stopped { OnErr result ((M : History LoadJob) → Agrees loading core.old M
-        → Stops loading job_of until V.saw V.failed (record {
-          history = M;
-          coming = R.coming releases.old;
-          owing = None;
-        }) core.new
-        (view.old, lent.old) (view.new, lent.new)) }
+    ensures simulates { OnOk result (Begun core.old (R.coming releases.old) (λ sim.
+        Simulates loading job_of until V.saw sim core.new (view.old, lent.old)
+        (view.new, lent.new))) }
+    ensures stopped { OnErr result (Begun core.old (R.coming releases.old) (λ sim.
+        Stops loading job_of until V.saw V.failed sim core.new (view.old, lent.old)
+        (view.new, lent.new))) }
 {
     let mut owing = None;
     let mut stop = stop_of(releases, until);

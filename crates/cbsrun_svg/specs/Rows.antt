@@ -89,7 +89,7 @@ units_title name units w = name ++ codes ": " ++ decimal units ++ codes " units 
 -- last, on top
 unfoldable pub bars_text : AxisSeen → Layout → Window → List ℕ → Mode → ServerChart → List Counts → List ℕ
 bars_text a l w name mode c cs =
-    layer_text a (l.bar + l.height) l.height layer.Active (codes "wait") cs ++ layer_text a (l.bar + l.height) l.height layer.Held (codes "hatch") cs
+    layer_text a (l.bar + l.height) l.height layer.Active (codes "wait") cs ++ layer_text a (l.bar + l.height) l.height layer.Throttled (codes "hatch") cs
     ++ charged_text a l w c cs
     ++ titled_text (bar_class mode true) (layer_shape a (l.bar + l.height) l.height layer.Runs cs) (units_title name (units_of w c) w)
 

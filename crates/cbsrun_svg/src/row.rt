@@ -316,7 +316,7 @@ fn append_bars(
         axis,
         base,
         height,
-        Layer::Held,
+        Layer::Throttled,
         "hatch",
         counts,
     )?;

@@ -21,8 +21,8 @@ cell_counts a ps = map (counts_at a ps) (range_with_len 0 a.cells)
 abbrev pub count_up_to : ℕ → Layer → Counts → ℕ
 count_up_to cell layer.Runs c = min cell c.runs
 count_up_to cell layer.Charged c = min cell (min cell c.runs + min cell c.charged)
-count_up_to cell layer.Held c = min cell (min cell c.runs + min cell c.charged + min cell c.held)
-count_up_to cell layer.Active c = min cell (min cell c.runs + min cell c.charged + min cell c.held + min cell c.waits)
+count_up_to cell layer.Throttled c = min cell (min cell c.runs + min cell c.charged + min cell c.throttled)
+count_up_to cell layer.Active c = min cell (min cell c.runs + min cell c.charged + min cell c.throttled + min cell c.waits)
 count_up_to cell layer.Idle c = min cell c.idle
 count_up_to cell layer.Refused c = if eqb c.refused 0 then 0 else cell
 count_up_to cell layer.Late c = if eqb c.late 0 then 0 else cell

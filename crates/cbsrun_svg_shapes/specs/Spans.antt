@@ -10,12 +10,13 @@ use Rattle.cbs_rules.specs.declared.mode.Mode.{Mode}
 use Rattle.cbs_rules.specs.declared.mode.Mode.TheVariants as mode
 use Rattle.cbsrun_svg_shapes.specs.Axes.{AxisSeen, x_at}
 use Rattle.cbsrun_svg_shapes.specs.declared.layout.Layout.{Layout}
+use Rattle.cbsrun_svg_shapes.specs.declared.spans.Place.{Place}
 use Rattle.cbsrun_svg_shapes.specs.Shapes.{box_text, label_text, path_text, stretch_text, titled_text, width_of}
 
 -- ticks of this kind are pale: the server has a job, and does not run
 abbrev pub is_pale : Kind → Bool
 is_pale kind.Waits = true
-is_pale kind.Held = true
+is_pale kind.Throttled = true
 is_pale _ = false
 
 abbrev pub pale_text : AxisSeen → Layout → Stretch → List ℕ
@@ -75,9 +76,13 @@ other_text a l class name what p = titled_text class (stretch_text a l.bar l.hei
 abbrev pub span_text : AxisSeen → Layout → Mode → List ℕ → List ChartJob → Kind → Stretch → List ℕ
 span_text a l mode name jobs (kind.Runs j) p = bar_text a l mode name jobs j p
 span_text a l mode name jobs kind.Charged p = other_text a l (codes "charged") name (codes " charged") p
-span_text a l mode name jobs kind.Held p = other_text a l (codes "hatch") name (codes " throttled") p
+span_text a l mode name jobs kind.Throttled p = other_text a l (codes "hatch") name (codes " throttled") p
 span_text a l mode name jobs kind.Resting p = other_text a l (codes "hatch") name (codes " throttled, without a job") p
 span_text a l mode name jobs _ p = []
+
+-- the same in the row of a server
+abbrev pub placed_span : Place → List ChartJob → Stretch → List ℕ
+placed_span place jobs p = span_text place.axis place.layout place.mode place.name.now jobs p.kind p
 
 -- ticks in which a job is late, drawn at least a pixel and a half wide
 unfoldable pub late_text : AxisSeen → Layout → List ℕ → Stretch → List ℕ

@@ -16,7 +16,7 @@ pub enum Layer {
     /// The server runs or is charged.
     Charged,
     /// The server runs, is charged, or is throttled with a job.
-    Held,
+    Throttled,
     /// The server runs, is charged, or has a job.
     Active,
     /// Nobody runs.
@@ -64,12 +64,12 @@ fn count_up_to(cell: u64, layer: Layer, counts: &Counts) -> u64
 {
     let runs = counts.runs.min(cell);
     let charged = counts.charged.min(cell);
-    let held = counts.held.min(cell);
+    let throttled = counts.throttled.min(cell);
     match layer {
         Layer::Runs => runs,
         Layer::Charged => (runs + charged).min(cell),
-        Layer::Held => (runs + charged + held).min(cell),
-        Layer::Active => (runs + charged + held + counts.waits.min(cell)).min(cell),
+        Layer::Throttled => (runs + charged + throttled).min(cell),
+        Layer::Active => (runs + charged + throttled + counts.waits.min(cell)).min(cell),
         Layer::Idle => counts.idle.min(cell),
         Layer::Refused => {
             if counts.refused == 0 {

@@ -2,7 +2,7 @@
 
 ghost use Rattle.std.specs.Prelude.{◌≡◌, ◌++◌, codes, decimal, IfOk, OnOk, flat_map, string_bytes};
 ghost use Rattle.cbsrun_svg_shapes.specs.Shapes.{stretch_text};
-ghost use Rattle.cbsrun_svg_shapes.specs.Spans.{bar_class, bar_text, bar_title, finish_text, is_pale, job_text, late_by_text, late_text, number_text, other_text, pale_path, pale_text, span_text, stretch_title};
+ghost use Rattle.cbsrun_svg_shapes.specs.Spans.{bar_class, bar_text, bar_title, finish_text, is_pale, job_text, late_by_text, late_text, number_text, other_text, pale_path, pale_text, placed_span, stretch_title};
 
 use crate::axis::Axis;
 use crate::layout::Layout;
@@ -32,7 +32,7 @@ fn is_pale(kind: Kind) -> bool
     ensures { result ≡ is_pale kind }
 {
     match kind {
-        Kind::Waits | Kind::Held => true,
+        Kind::Waits | Kind::Throttled => true,
         Kind::Runs(_) | Kind::Charged | Kind::Resting | Kind::Refused | Kind::Late | Kind::Idle =>
             false,
     }
@@ -246,13 +246,12 @@ pub fn append_span(
     span: &Stretch,
 ) -> Result<(), AllocError>
     ensures { OnOk result (string_bytes text.new ≡ string_bytes text.old
-        ++ span_text place.now.axis place.now.layout place.now.mode place.now.name.now jobs.now
-        span.now.kind span.now) }
+        ++ placed_span place.now jobs.now span.now) }
 {
     match span.kind {
         Kind::Runs(number) => append_bar(alloc, text, place, jobs, number, span),
         Kind::Charged => append_other(alloc, text, place, "charged", " charged", span),
-        Kind::Held => append_other(alloc, text, place, "hatch", " throttled", span),
+        Kind::Throttled => append_other(alloc, text, place, "hatch", " throttled", span),
         Kind::Resting => append_other(
             alloc,
             text,

@@ -21,8 +21,8 @@ abbrev pub waits_sign : ℕ
 waits_sign = 46
 
 -- '/': the server has a job, and is throttled
-abbrev pub held_sign : ℕ
-held_sign = 47
+abbrev pub throttled_sign : ℕ
+throttled_sign = 47
 
 -- '$': the server is charged for its last unit
 abbrev pub charged_sign : ℕ
@@ -69,7 +69,7 @@ letter_of j false = 97 + j % 26
 abbrev pub kind_sign : Kind → Bool → ℕ
 kind_sign (kind.Runs j) used_up = letter_of j used_up
 kind_sign kind.Charged _ = charged_sign
-kind_sign kind.Held _ = held_sign
+kind_sign kind.Throttled _ = throttled_sign
 kind_sign kind.Waits _ = waits_sign
 kind_sign _ _ = blank
 
@@ -107,7 +107,7 @@ run_sign runs ticks = if leb ticks runs then all_sign else if ltb (runs * 10) ti
 abbrev pub count_sign : ℕ → Counts → ℕ
 count_sign ticks n =
     if ltb 0 n.runs then run_sign n.runs ticks
-    else if ltb 0 n.held then held_sign
+    else if ltb 0 n.throttled then throttled_sign
     else if ltb 0 n.waits then waits_sign
     else blank
 

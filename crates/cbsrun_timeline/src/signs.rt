@@ -13,7 +13,7 @@ pub(crate) const BLANK: char = ' ';
 /// The server has a job, and another runs.
 pub(crate) const WAITS: char = '.';
 /// The server has a job, and is throttled.
-pub(crate) const HELD: char = '/';
+pub(crate) const THROTTLED: char = '/';
 /// The server is charged for its last unit.
 pub(crate) const CHARGED: char = '$';
 /// The server runs in all ticks of a column.
@@ -69,7 +69,7 @@ fn kind_sign(kind: Kind, used_up: bool) -> char
     match kind {
         Kind::Runs(job) => letter_of(job, used_up),
         Kind::Charged => CHARGED,
-        Kind::Held => HELD,
+        Kind::Throttled => THROTTLED,
         Kind::Waits => WAITS,
         Kind::Resting | Kind::Refused | Kind::Late | Kind::Idle => BLANK,
     }
@@ -171,8 +171,8 @@ fn count_sign(ticks: u64, counts: &Counts) -> char
     if counts.runs > 0 {
         return run_sign(counts.runs, ticks);
     }
-    if counts.held > 0 {
-        return HELD;
+    if counts.throttled > 0 {
+        return THROTTLED;
     }
     if counts.waits > 0 {
         return WAITS;

@@ -21,7 +21,7 @@ counted_more is from to ps p =
     let g : counted is from to (ps ++ p ∷ []) ≡ counted is from to ps + f p = omega (arith, h) in
     ap told g ∙ told_more (counted is from to ps) (f p)
 
-same_counts : (a b : Counts) → a.runs ≡ b.runs → a.charged ≡ b.charged → a.held ≡ b.held → a.waits ≡ b.waits → a.refused ≡ b.refused → a.late ≡ b.late
+same_counts : (a b : Counts) → a.runs ≡ b.runs → a.charged ≡ b.charged → a.throttled ≡ b.throttled → a.waits ≡ b.waits → a.refused ≡ b.refused → a.late ≡ b.late
     → a.idle ≡ b.idle → a ≡ b
 same_counts a b d e f g h i j = rw (d, e, f, g, h, i, j) refl
 

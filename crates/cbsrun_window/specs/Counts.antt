@@ -29,9 +29,9 @@ abbrev pub is_charged : Kind → Bool
 is_charged kind.Charged = true
 is_charged _ = false
 
-abbrev pub is_held : Kind → Bool
-is_held kind.Held = true
-is_held _ = false
+abbrev pub is_throttled : Kind → Bool
+is_throttled kind.Throttled = true
+is_throttled _ = false
 
 abbrev pub is_waits : Kind → Bool
 is_waits kind.Waits = true
@@ -54,7 +54,7 @@ abbrev pub counts_of : ℕ → ℕ → List Stretch → Counts
 counts_of from to ps = record {
   runs = told (counted is_runs from to ps);
   charged = told (counted is_charged from to ps);
-  held = told (counted is_held from to ps);
+  throttled = told (counted is_throttled from to ps);
   waits = told (counted is_waits from to ps);
   refused = told (counted is_refused from to ps);
   late = told (counted is_late from to ps);
@@ -66,7 +66,7 @@ abbrev pub counts_with : Kind → ℕ → Counts → Counts
 counts_with k n c = record {
   runs = told (c.runs + ticks_if (is_runs k) n);
   charged = told (c.charged + ticks_if (is_charged k) n);
-  held = told (c.held + ticks_if (is_held k) n);
+  throttled = told (c.throttled + ticks_if (is_throttled k) n);
   waits = told (c.waits + ticks_if (is_waits k) n);
   refused = told (c.refused + ticks_if (is_refused k) n);
   late = told (c.late + ticks_if (is_late k) n);

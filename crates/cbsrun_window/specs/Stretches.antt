@@ -12,7 +12,7 @@ abbrev pub same_kind : Kind → Kind → Bool
 same_kind (kind.Runs i) (kind.Runs j) = eqb i j
 same_kind kind.Charged kind.Charged = true
 same_kind kind.Waits kind.Waits = true
-same_kind kind.Held kind.Held = true
+same_kind kind.Throttled kind.Throttled = true
 same_kind kind.Resting kind.Resting = true
 same_kind kind.Refused kind.Refused = true
 same_kind kind.Late kind.Late = true

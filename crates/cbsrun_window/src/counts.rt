@@ -14,7 +14,7 @@ pub struct Counts {
     /// The server is charged for its last unit.
     pub charged: u64,
     /// The server has a job, and is throttled.
-    pub held: u64,
+    pub throttled: u64,
     /// The server has a job, and another runs.
     pub waits: u64,
     /// A release is refused.
@@ -43,7 +43,7 @@ impl Counts {
         match kind {
             Kind::Runs(_) => counts.runs = self.runs.saturating_add(ticks),
             Kind::Charged => counts.charged = self.charged.saturating_add(ticks),
-            Kind::Held => counts.held = self.held.saturating_add(ticks),
+            Kind::Throttled => counts.throttled = self.throttled.saturating_add(ticks),
             Kind::Waits => counts.waits = self.waits.saturating_add(ticks),
             Kind::Refused => counts.refused = self.refused.saturating_add(ticks),
             Kind::Late => counts.late = self.late.saturating_add(ticks),
@@ -60,7 +60,7 @@ impl Counts {
         let mut counts = Counts {
             runs: 0,
             charged: 0,
-            held: 0,
+            throttled: 0,
             waits: 0,
             refused: 0,
             late: 0,

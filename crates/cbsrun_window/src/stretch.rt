@@ -15,7 +15,7 @@ pub enum Kind {
     /// The server has a job and is not throttled, but does not run.
     Waits,
     /// The server has a job, and is throttled.
-    Held,
+    Throttled,
     /// The server has no job, and is throttled.
     Resting,
     /// In each of the ticks a release of the server is refused.
@@ -46,7 +46,7 @@ impl Kind {
             (Kind::Runs(job), Kind::Runs(other)) => job == other,
             (Kind::Charged, Kind::Charged)
             | (Kind::Waits, Kind::Waits)
-            | (Kind::Held, Kind::Held)
+            | (Kind::Throttled, Kind::Throttled)
             | (Kind::Resting, Kind::Resting)
             | (Kind::Refused, Kind::Refused)
             | (Kind::Late, Kind::Late)

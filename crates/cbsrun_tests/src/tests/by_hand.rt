@@ -20,7 +20,7 @@ fn chart(alloc: Global) -> Result<ServerChart, AllocError> {
     Ok(ServerChart {
         spans: vec![in alloc;
             stretch(Kind::Runs(0), 2, 3),
-            stretch(Kind::Held, 3, 11),
+            stretch(Kind::Throttled, 3, 11),
             stretch(Kind::Runs(0), 11, 12),
             stretch(Kind::Charged, 12, 14),
         ]?,

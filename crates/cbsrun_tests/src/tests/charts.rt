@@ -20,7 +20,7 @@ const CAME: ServerView = ServerView {
 };
 
 /// Its view once the budget is used up.
-const HELD: ServerView = ServerView {
+const THROTTLED: ServerView = ServerView {
     budget: 0,
     throttled: true,
     ..CAME
@@ -67,14 +67,14 @@ static STEPS: [(u64, Event, Option<ServerView>); 9] = [
         Some(CAME),
     ),
     (2, UNIT, Some(ServerView { budget: 1, ..CAME })),
-    (3, UNIT, Some(HELD)),
+    (3, UNIT, Some(THROTTLED)),
     (
         4,
         Event::NotAccepted {
             job: REFUSED,
             error: CoreError::BacklogFull,
         },
-        Some(HELD),
+        Some(THROTTLED),
     ),
     (11, Event::Advanced(8), None),
     (12, LAST, Some(DONE)),
@@ -96,7 +96,7 @@ static STEPS: [(u64, Event, Option<ServerView>); 9] = [
 /// What the server does.
 static SPANS: [(Kind, u64, u64); 5] = [
     (Kind::Runs(0), 2, 3),
-    (Kind::Held, 3, 11),
+    (Kind::Throttled, 3, 11),
     (Kind::Runs(0), 11, 12),
     (Kind::Charged, 12, 14),
     (Kind::Resting, 14, 20),

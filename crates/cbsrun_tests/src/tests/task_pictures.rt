@@ -38,7 +38,7 @@ step = [
 /// What the first server does: what goes on, the first tick, and the tick after the last.
 static FIRST: [(Kind, u64, u64); 5] = [
     (Kind::Runs(0), 1, 2),
-    (Kind::Held, 2, 5),
+    (Kind::Throttled, 2, 5),
     (Kind::Runs(0), 5, 7),
     (Kind::Resting, 7, 10),
     (Kind::Runs(1), 10, 11),

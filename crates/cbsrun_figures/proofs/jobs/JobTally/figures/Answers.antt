@@ -5,7 +5,7 @@ use Rattle.cbsrun_figures.proofs.JobSteps.{tally_settled}
 use Rattle.cbsrun_figures.proofs.jobs.JobTally.figures.Goals as goal
 
 pub returns : goal.returns
-returns g c = λ budget own is sums held.
+returns g c = λ budget own is sums throttled_ticks.
     c.settled_figures.ensures budget own
     (c.in_ok-settle.ensures
-    ∙ (ap (λ t. jobs_settled t.newest t) is ∙ tally_settled (waiting own) (newest own) (greatest_backlog own) (settled own))) sums held
+    ∙ (ap (λ t. jobs_settled t.newest t) is ∙ tally_settled (waiting own) (newest own) (greatest_backlog own) (settled own))) sums throttled_ticks

@@ -2,7 +2,7 @@
 
 ghost use Rattle.std.specs.Prelude.{◌≡◌, ◌+◌, []};
 ghost use Rattle.cbsrun_figures.specs.Figures.{told};
-ghost use Rattle.cbsrun_figures.specs.Tallies.{held_of, held_with, wait_of, waited_since};
+ghost use Rattle.cbsrun_figures.specs.Tallies.{throttled_ticks_of, throttled_ticks_with, wait_of, waited_since};
 
 use cbs_steps::ServerView;
 
@@ -17,7 +17,7 @@ pub struct Wait {
 
 /// The ticks in which a server was throttled and had a job.
 #[derive(Clone, Copy)]
-pub struct Held {
+pub struct ThrottledTicks {
     /// The ticks up to the server's last step.
     pub ticks: u64,
     /// The wait that goes on after that step, if the server waits.
@@ -38,12 +38,12 @@ fn wait_of(clock: u64, view: Option<ServerView>) -> Option<Wait>
     None
 }
 
-impl Held {
+impl ThrottledTicks {
     /// Returns the ticks of a server with no step: none.
-    pub fn new() -> Held
-        ensures { result ≡ held_of [] }
+    pub fn new() -> ThrottledTicks
+        ensures { result ≡ throttled_ticks_of [] }
     {
-        Held {
+        ThrottledTicks {
             ticks: 0,
             wait: None,
         }
@@ -64,7 +64,7 @@ impl Held {
     /// server shows this view.
     #[inline(always)]
     pub fn add(&mut self, begun: u64, clock: u64, view: Option<ServerView>)
-        ensures { self.new ≡ held_with begun clock view self.old }
+        ensures { self.new ≡ throttled_ticks_with begun clock view self.old }
     {
         self.ticks = self.until(begun);
         let wait = wait_of(clock, view);
