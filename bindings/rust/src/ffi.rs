@@ -60,6 +60,20 @@ pub(crate) struct Server {
     pub(crate) mode: u32,
 }
 
+/// The kinds of [`Unit`], and the results of a poll: each under its name of the header, without `CBS_`.
+pub(crate) mod kind {
+    pub(crate) const RUN_IDLE: u32 = 0;
+    pub(crate) const RUN_CLOCK_END: u32 = 1;
+    pub(crate) const RUN_UNIT: u32 = 2;
+    pub(crate) const RUN_DONE: u32 = 3;
+
+    pub(crate) const POLL_NOTHING: u32 = 0;
+    pub(crate) const POLL_TOOK: u32 = 1;
+    pub(crate) const POLL_CLOSED: u32 = 2;
+    pub(crate) const POLL_FULL: u32 = 3;
+    pub(crate) const POLL_NO_MEMORY: u32 = 4;
+}
+
 /// `struct cbs_unit`.
 #[repr(C)]
 #[derive(Clone, Copy, Default)]

@@ -1,6 +1,6 @@
 use crate::bell::{Bell, Stopper};
 use crate::error::{not_answered, HouseError, RunError};
-use crate::ffi::{self, Handle, Status};
+use crate::ffi::{self, kind, Handle, Status};
 use crate::tokens::Tokens;
 use crate::unit::{Token, Unfinished, Unit};
 use std::sync::Arc;
@@ -183,18 +183,23 @@ impl<T> House<T> {
         &self.bell
     }
 
+    /// Returns the unit of a job, with the job's token. The token is taken out of the house with the `last` unit.
+    fn unit(&mut self, unit: ffi::Unit, last: bool) -> Unit<'_, T> {
+        let server = usize::from(unit.server);
+        Unit {
+            server,
+            seq: unit.seq,
+            token: self.servers[server].token(unit.seq, last),
+        }
+    }
+
     fn ran(&mut self, unit: ffi::Unit) -> Ran<'_, T> {
         match unit.kind {
-            0 => Ran::Idle,
-            1 => Ran::ClockEnd,
-            kind => {
-                let server = usize::from(unit.server);
-                Ran::Unit(Unit {
-                    server,
-                    seq: unit.seq,
-                    token: self.servers[server].token(unit.seq, kind == 3),
-                })
-            }
+            kind::RUN_IDLE => Ran::Idle,
+            kind::RUN_CLOCK_END => Ran::ClockEnd,
+            kind::RUN_UNIT => Ran::Unit(self.unit(unit, false)),
+            kind::RUN_DONE => Ran::Unit(self.unit(unit, true)),
+            other => unreachable!("cbs: a unit of kind {other}"),
         }
     }
 
@@ -288,16 +293,17 @@ impl<T> House<T> {
     ///
     /// [`HouseError::NoSuchServer`].
     pub fn poll(&mut self, server: usize) -> Result<Poll, HouseError> {
-        let kind = ffi::poll(&mut self.handle, number(server)?).map_err(HouseError::of)?;
-        Ok(match kind {
-            0 => Poll::Nothing,
-            1 => {
+        let polled = ffi::poll(&mut self.handle, number(server)?).map_err(HouseError::of)?;
+        Ok(match polled {
+            kind::POLL_NOTHING => Poll::Nothing,
+            kind::POLL_TOOK => {
                 self.servers[server].tokens.room.ring();
                 Poll::Took
             }
-            2 => Poll::Closed,
-            3 => Poll::Full,
-            _ => Poll::NoMemory,
+            kind::POLL_CLOSED => Poll::Closed,
+            kind::POLL_FULL => Poll::Full,
+            kind::POLL_NO_MEMORY => Poll::NoMemory,
+            other => unreachable!("cbs: a poll with the result {other}"),
         })
     }
 

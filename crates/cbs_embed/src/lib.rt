@@ -7,6 +7,8 @@ pub mod calls;
 mod handle;
 mod held;
 mod job;
+mod on_client;
+mod on_house;
 mod opening;
 mod parts;
 mod planning;

@@ -10,4 +10,4 @@ returns-in_err-house_mut c = no_house (Advances c.args.ticks) (held_by c.args.ha
 
 pub returns : goal.returns
 returns c = on_house (Advances c.args.ticks) c.in_ok-house_mut.ensures.value
-    (c.house_mut.follows.holds c.advance_house.new.house (rw c.in_ok-house_mut.was refl)) c.advance_house.ensures
+    (c.house_mut.follows.holds c.advance.new.house (rw c.in_ok-house_mut.was refl)) c.advance.ensures

@@ -10,4 +10,4 @@ returns-in_err-house_mut c = no_house (ChargesServer c.args.server c.args.ticks)
 
 pub returns : goal.returns
 returns c = on_house (ChargesServer c.args.server c.args.ticks) c.in_ok-house_mut.ensures.value
-    (c.house_mut.follows.holds c.charge_house.new.house (rw c.in_ok-house_mut.was refl)) c.charge_house.ensures
+    (c.house_mut.follows.holds c.charge.new.house (rw c.in_ok-house_mut.was refl)) c.charge.ensures

@@ -10,4 +10,4 @@ returns-in_err-house_mut c = no_house (ShowsCharges c.args.server) (held_by c.ar
 
 pub returns : goal.returns
 returns c = on_house (ShowsCharges c.args.server) c.in_ok-house_mut.ensures.value
-    (c.house_mut.follows.holds c.charges_house.new.house (rw c.in_ok-house_mut.was refl)) c.charges_house.ensures
+    (c.house_mut.follows.holds c.charges.new.house (rw c.in_ok-house_mut.was refl)) c.charges.ensures

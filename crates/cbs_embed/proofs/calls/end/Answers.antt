@@ -10,4 +10,4 @@ returns-in_err-client_mut c = no_client Ends (held_by c.args.handle.now) c.in_er
 
 pub returns : goal.returns
 returns c = on_client Ends c.in_ok-client_mut.ensures.value
-    (c.client_mut.follows.holds c.end_of.new.client (rw c.in_ok-client_mut.was refl)) c.end_of.ensures
+    (c.client_mut.follows.holds c.end.new.client (rw c.in_ok-client_mut.was refl)) c.end.ensures

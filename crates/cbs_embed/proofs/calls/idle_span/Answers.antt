@@ -10,4 +10,4 @@ returns-in_err-house_mut c = no_house Spans (held_by c.args.handle.now) c.in_err
 
 pub returns : goal.returns
 returns c = on_house Spans c.in_ok-house_mut.ensures.value
-    (c.house_mut.follows.holds c.idle_span_house.new.house (rw c.in_ok-house_mut.was refl)) c.idle_span_house.ensures
+    (c.house_mut.follows.holds c.idle_span.new.house (rw c.in_ok-house_mut.was refl)) c.idle_span.ensures

@@ -10,4 +10,4 @@ returns-in_err-house_mut c = no_house TellsClock (held_by c.args.handle.now) c.i
 
 pub returns : goal.returns
 returns c = on_house TellsClock c.in_ok-house_mut.ensures.value
-    (c.house_mut.follows.holds c.now_house.new.house (rw c.in_ok-house_mut.was refl)) c.now_house.ensures
+    (c.house_mut.follows.holds c.now.new.house (rw c.in_ok-house_mut.was refl)) c.now.ensures

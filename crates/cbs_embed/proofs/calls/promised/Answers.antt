@@ -10,4 +10,4 @@ returns-in_err-house_mut c = no_house (Promises c.args.server) (held_by c.args.h
 
 pub returns : goal.returns
 returns c = on_house (Promises c.args.server) c.in_ok-house_mut.ensures.value
-    (c.house_mut.follows.holds c.promised_house.new.house (rw c.in_ok-house_mut.was refl)) c.promised_house.ensures
+    (c.house_mut.follows.holds c.promised.new.house (rw c.in_ok-house_mut.was refl)) c.promised.ensures

@@ -10,4 +10,4 @@ returns-in_err-house_mut c = no_house (Shows c.args.server) (held_by c.args.hand
 
 pub returns : goal.returns
 returns c = on_house (Shows c.args.server) c.in_ok-house_mut.ensures.value
-    (c.house_mut.follows.holds c.view_house.new.house (rw c.in_ok-house_mut.was refl)) c.view_house.ensures
+    (c.house_mut.follows.holds c.view.new.house (rw c.in_ok-house_mut.was refl)) c.view.ensures

@@ -10,4 +10,4 @@ returns-in_err-client_mut c = no_client Waits (held_by c.args.handle.now) c.in_e
 
 pub returns : goal.returns
 returns c = on_client Waits c.in_ok-client_mut.ensures.value
-    (c.client_mut.follows.holds c.waiting_of.new.client (rw c.in_ok-client_mut.was refl)) c.waiting_of.ensures
+    (c.client_mut.follows.holds c.waiting.new.client (rw c.in_ok-client_mut.was refl)) c.waiting.ensures

@@ -1,6 +1,6 @@
 use Rattle.cbs_core.specs.Held.{IsCoreOnTime, IsCorePaced}
 use Rattle.cbs_embed.proofs.Drops.{drops_keep}
-use Rattle.cbs_embed.proofs.calls.turn_house.Goals as goal
+use Rattle.cbs_embed.proofs.on_house.turn.Goals as goal
 
 pub returns : goal.returns
 returns c =

@@ -1,7 +1,7 @@
 use Rattle.std.proofs.Common.{◌∙◌, ap}
 use Rattle.std.specs.Option.{unwrap_or}
 use Rattle.cbs_embed.proofs.Tokens.{names_first, names_done}
-use Rattle.cbs_embed.proofs.calls.token_of.Goals as goal
+use Rattle.cbs_embed.proofs.on_house.token_of.Goals as goal
 
 pub returns-in-Unit : goal.returns-in-Unit
 returns-in-Unit c =

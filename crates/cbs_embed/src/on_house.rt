@@ -1,0 +1,128 @@
+//! What the calls on a handle do to its house.
+
+ghost use Rattle.std.specs.Prelude.{◌≡◌, ◌≤◌, length, MatchResult};
+ghost use Rattle.cbs_clients.specs.Houses.{core_of, NamesJob};
+ghost use Rattle.cbs_clients.specs.declared.error.HouseError.TheVariants.{NoSuchServer};
+ghost use Rattle.cbs_embed.specs.Calls.{Drops, Runs, Turns, HasServer, Polls, Advances, ChargesServer, ShowsCharges, TellsClock, Spans, Shows, Promises, NamesToken};
+ghost use Rattle.cbs_embed.specs.Jobs.{counting};
+ghost use Rattle.cbs_embed.specs.declared.refusal.Refusal.TheVariants as refused;
+
+use crate::calls::{Ticked, Turned};
+use crate::job::UnitJob;
+use crate::refusal::Refusal;
+use cbs_core::{Charges, Ran, ServerView};
+use cbs_house::{House, HouseError, Poll};
+
+/// Returns the token of the job in the result of a run, or 0 if no job got a unit.
+fn token_of(house: &House<UnitJob>, ran: Ran) -> u64
+    requires { NamesJob counting ran house.now }
+    ensures { NamesToken ran result house.now }
+{
+    match ran {
+        Ran::Idle | Ran::ClockEnd => 0,
+        Ran::Unit { server, .. } => house.front_output(server).unwrap_or(0),
+        Ran::Done(done) => done.result,
+    }
+}
+
+/// Drops the result of a finished job. The host gets the job's token, so no result is kept.
+fn forget(house: &mut House<UnitJob>, ran: Ran)
+    ensures { Drops ran house.old house.new }
+{
+    if let Ran::Done(done) = ran {
+        house.discard_results(done.server);
+    }
+}
+
+/// Runs one unit.
+pub(crate) fn run(house: &mut House<UnitJob>) -> Result<Ticked, Refusal>
+    ensures { Runs house.old result house.new }
+{
+    let ran = house.run();
+    let token = token_of(house, ran);
+    forget(house, ran);
+    Ok(Ticked { ran, token })
+}
+
+/// Takes a turn.
+pub(crate) fn turn(house: &mut House<UnitJob>) -> Result<Turned, Refusal>
+    ensures { Turns house.old result house.new }
+{
+    let turn = house.turn();
+    let token = token_of(house, turn.ran);
+    forget(house, turn.ran);
+    let over = house.is_over();
+    Ok(Turned { turn, token, over })
+}
+
+/// Refuses the number of a server that the house does not have, by [`HouseError::NoSuchServer`].
+fn require_server(house: &House<UnitJob>, server: u16) -> Result<(), Refusal>
+    ensures { MatchResult result
+        (λ _. HasServer server house.now)
+        (λ e. (e ≡ refused.House NoSuchServer) × (length (core_of house.now).faces ≤ server)) }
+{
+    if server >= house.servers() {
+        return Err(Refusal::House(HouseError::NoSuchServer));
+    }
+    Ok(())
+}
+
+/// Looks for the next message of a server.
+pub(crate) fn poll(house: &mut House<UnitJob>, server: u16) -> Result<Poll, Refusal>
+    ensures { Polls server house.old result house.new }
+{
+    require_server(house, server)?;
+    Ok(house.poll(server))
+}
+
+/// Lets ticks pass.
+pub(crate) fn advance(house: &mut House<UnitJob>, ticks: u64) -> Result<(), Refusal>
+    ensures { Advances ticks house.old result house.new }
+{
+    house.advance(ticks).map_err(|error| Refusal::House(error))
+}
+
+/// Charges a server the ticks that its last unit took after its first tick.
+pub(crate) fn charge(house: &mut House<UnitJob>, server: u16, ticks: u64) -> Result<(), Refusal>
+    ensures { ChargesServer server ticks house.old result house.new }
+{
+    house
+        .charge_server(server, ticks)
+        .map_err(|error| Refusal::House(error))
+}
+
+/// Returns what a server was charged.
+pub(crate) fn charges(house: &mut House<UnitJob>, server: u16) -> Result<Charges, Refusal>
+    ensures { ShowsCharges server house.old result house.new }
+{
+    house.charges(server).map_err(|error| Refusal::House(error))
+}
+
+/// Returns the clock.
+pub(crate) fn now(house: &mut House<UnitJob>) -> Result<u64, Refusal>
+    ensures { TellsClock house.old result house.new }
+{
+    Ok(house.now())
+}
+
+/// Returns for how many ticks no server will be ready.
+pub(crate) fn idle_span(house: &mut House<UnitJob>) -> Result<Option<u64>, Refusal>
+    ensures { Spans house.old result house.new }
+{
+    Ok(house.idle_span())
+}
+
+/// Returns a server's view.
+pub(crate) fn view(house: &mut House<UnitJob>, server: u16) -> Result<ServerView, Refusal>
+    ensures { Shows server house.old result house.new }
+{
+    house.view(server).map_err(|error| Refusal::House(error))
+}
+
+/// Returns the tick by which all that a server accepted is finished.
+pub(crate) fn promised(house: &mut House<UnitJob>, server: u16) -> Result<Option<u128>, Refusal>
+    ensures { Promises server house.old result house.new }
+{
+    require_server(house, server)?;
+    Ok(house.promised(server))
+}
