@@ -8,11 +8,10 @@ ghost use Rattle.cbsrun_commands.specs.Commands.{Does, EndsAs, printing_command}
 ghost use Rattle.cbsrun_lines.specs.Writers.{MayWrite};
 
 use crate::ending::{Stopped, print, status_of};
-use crate::reading::{load_file, task_file};
 use cbsrun_check_text::{check_load, check_plan};
 use cbsrun_io::ByteOutput;
-use cbsrun_loads::Load;
-use cbsrun_tasks::{FileFault, TaskFile, is_load_within};
+use cbsrun_loads::{Load, load_in};
+use cbsrun_tasks::{FileFault, Found, TaskFile, find_within};
 use std::alloc::{AllocError, Global};
 
 /// A file of either kind.
@@ -30,13 +29,9 @@ enum AnyFile {
 fn read_any(alloc: Global, memory: u64, bytes: &[u8]) -> Result<AnyFile, FileFault>
     ensures { Gives no_memory (λ f. f) result (any_file bytes.now) }
 {
-    let is_load = is_load_within(alloc, memory, bytes).into_result()?;
-    if is_load {
-        let load = load_file(alloc, memory, bytes)?;
-        Ok(AnyFile::Load(load))
-    } else {
-        let file = task_file(alloc, memory, bytes)?;
-        Ok(AnyFile::Tasks(file))
+    match find_within(alloc, memory, bytes).into_result()? {
+        Found::Tasks(file) => Ok(AnyFile::Tasks(file)),
+        Found::Load(table) => Ok(AnyFile::Load(load_in(alloc, &table)?)),
     }
 }
 

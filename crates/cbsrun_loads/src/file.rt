@@ -110,9 +110,10 @@ fn sources_of(
     Ok(sources)
 }
 
-/// Returns the load that a top table spells, or its first fault.
+/// Returns the load that the top table of a document spells, or its first fault. The faults, and their order, are those
+/// of [`read_load`].
 #[tactic(auto, unfolding(crate::specs::Spelling::load_in))]
-fn load_in(alloc: Global, table: &Table) -> Result<Load, FileFault>
+pub fn load_in(alloc: Global, table: &Table) -> Result<Load, FileFault>
     ensures { Gives no_memory (λ f. f) result (load_in (table_view table.now)) }
 {
     let top = match top_table(table) {

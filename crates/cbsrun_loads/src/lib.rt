@@ -8,6 +8,6 @@ mod server;
 mod source;
 mod top;
 
-pub use file::{read_load, read_load_within};
+pub use file::{load_in, read_load, read_load_within};
 pub use load::Load;
 pub use top::MAX_SOURCES;

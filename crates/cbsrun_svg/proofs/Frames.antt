@@ -1,12 +1,19 @@
 -- One server more, at the left edge and among the rows.
-use Rattle.std.proofs.Common.{◌≡◌, ◌∙◌, ℕ, ◌+◌, ◌*◌, ◌<◌, List, [], ◌∷◌, ◌++◌, length, take, append_assoc, arith, refl, sym, ap}
-use Rattle.std.specs.Prelude.{get_or, max}
+use Rattle.std.proofs.Common.{◌≡◌, ◌∙◌, ℕ, ◌+◌, ◌*◌, ◌<◌, List, [], ◌∷◌, ◌++◌, length, take, append_assoc, arith, refl, sym, ap, Result, Ok, Err}
+use Rattle.std.specs.Prelude.{get_or, max, if◌then◌else◌, OnOk}
+use Rattle.std.specs.Result.{is_ok}
 use Rattle.std.proofs.lemmas.List.{append-nil, length-take-le, take_more}
 use Rattle.cbsrun_chart.specs.declared.picture.Drawn.{Drawn}
 use Rattle.cbsrun_window.specs.declared.window.Window.{Window}
 use Rattle.cbsrun_svg_shapes.specs.Axes.{AxisSeen}
 use Rattle.cbsrun_svg_shapes.specs.declared.layout.Layout.{Layout}
 use Rattle.cbsrun_svg.specs.Pictures.{left_of, rows_text, server_row, words_width}
+
+-- a text that was appended to another
+pub pushed : {T E : Type 0} (r : Result T E) (new old more whole : List ℕ) → new ≡ (if is_ok r then old ++ more else old) → old ++ more ≡ whole
+    → OnOk r (new ≡ whole)
+pushed (Ok x) new old more whole is same = is ∙ same
+pushed (Err e) new old more whole is same = tt
 
 -- room for one server more
 left_push : (n : ℕ) (ds : List Drawn) (d : Drawn) → left_of n (ds ++ d ∷ []) ≡ max (words_width n d) (left_of n ds)

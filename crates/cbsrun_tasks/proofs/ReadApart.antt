@@ -12,8 +12,8 @@ use Rattle.cbsrun_tables.specs.declared.fault.Place.TheVariants.{Top, Step as At
 use Rattle.cbsrun_tasks.specs.Entries.{step_entry}
 use Rattle.cbsrun_tables.specs.Fields.{each_from, list_of}
 use Rattle.cbs_rules.specs.Setups.{ModedPlan, no_servers}
-use Rattle.cbsrun_tables.specs.Documents.{at, faulty, has_key, taken_in}
-use Rattle.cbsrun_tasks.specs.Spelling.{admitted_entry, file}
+use Rattle.cbsrun_tables.specs.Documents.{at, document, faulty, has_key, taken_in}
+use Rattle.cbsrun_tasks.specs.Spelling.{admitted_entry, file, file_in}
 use Rattle.cbsrun_tasks.specs.TopTables.{TopData, top_table}
 use Rattle.cbsrun_toml.specs.Reading.{insert_member}
 use Rattle.toml.specs.View.{table_view}
@@ -33,6 +33,15 @@ pub load_key : (doc : Doc) (read : Option StepsRead) (bytes : List ℕ) → is_u
 load_key doc None bytes utf8 parsed = rw (utf8, parsed) refl
 load_key doc (Some r) bytes utf8 (ds, parsed, none, spells) =
     rw (utf8, parsed, get_other (codes "load") (codes "step") (array ds) (table_view doc.table) refl none) refl
+
+-- the file of a document is that of its top table
+pub file_of_table : (bytes : List ℕ) (ms : Members) → at Top (document bytes) ≡ Ok ms → file bytes ≡ file_in ms
+unfolding file
+file_of_table bytes ms is = rw is refl
+
+-- the table of a document whose steps do not stand apart
+pub whole_table : (bytes : List ℕ) (ms : Members) → is_utf8 bytes ≡ true → parse_document bytes ≡ Some ms → at Top (document bytes) ≡ Ok ms
+whole_table bytes ms utf8 parsed = rw (utf8, parsed) refl
 
 module _ (bytes : List ℕ) (ds : Items) (ms : Members) (utf8 : is_utf8 bytes ≡ true)
     (parsed : parse_document bytes ≡ Some (insert_member (codes "step") (array ds) ms)) (none : get_member (codes "step") ms ≡ None) where

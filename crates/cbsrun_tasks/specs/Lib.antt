@@ -1,5 +1,6 @@
 pub mod Entries
 pub mod Formats
+pub mod Kinds
 pub mod Plain
 pub mod Spelling
 pub mod Streams

@@ -1,6 +1,6 @@
 -- What the bytes of a task file spell: the file, or its first fault with the place of that fault.
 use Rattle.std.specs.Prelude.{ℕ, length, List, Option, Some, None, Result, Ok, Err}
-use Rattle.toml.specs.Data.{Data}
+use Rattle.toml.specs.Data.{Data, Members}
 use Rattle.cbs_rate.specs.Plan.{admit_refusal}
 use Rattle.cbs_rate.specs.declared.error.AdmitError.{AdmitError}
 use Rattle.cbs_rules.specs.declared.mode.Mode.{Mode}
@@ -26,11 +26,16 @@ admitted_entry mode setup entry = do
   server ← server_entry mode entry
   unless_refused (with_server setup server.reservation server.mode) (admit_refusal setup.plan server.reservation)
 
--- the file that the bytes spell
-unfoldable pub file : List ℕ → Result File FileFault
-file bytes = do
-  table ← at Top (document bytes)
+-- the file that a top table spells
+abbrev pub file_in : Members → Result File FileFault
+file_in table = do
   top ← at Top (top_table table)
   setup ← taken_in (admitted_entry top.mode) 0 (no_servers top.bound) top.servers
   steps ← each_from 0 (λ i entry. at (AtStep i) (step_entry top.format (length setup.plan.rates) entry)) top.steps
   Ok (record { modes = setup.modes; plan = setup.plan; backlog = top.backlog; ring = top.ring; steps = steps })
+
+-- the file that the bytes spell
+unfoldable pub file : List ℕ → Result File FileFault
+file bytes = do
+  table ← at Top (document bytes)
+  file_in table

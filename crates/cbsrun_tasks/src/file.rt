@@ -11,7 +11,7 @@ ghost use Rattle.cbsrun_tables.specs.Fields.{Gives, seen, each_from};
 ghost use Rattle.cbsrun_tables.specs.Bounds.{IsBounded, result_of};
 ghost use Rattle.cbsrun_tasks.specs.Streams.{IsDocument};
 ghost use Rattle.cbsrun_tasks.specs.TaskFiles.{IsFileStep};
-ghost use Rattle.cbsrun_tasks.specs.Spelling.{file, admitted_entry};
+ghost use Rattle.cbsrun_tasks.specs.Spelling.{file, file_in, admitted_entry};
 ghost use Rattle.cbsrun_tables.specs.Documents.{document, faulty, at, no_memory, taken_in};
 ghost use Rattle.cbs_rate.specs.Limits.{most_servers};
 ghost use Rattle.cbs_rules.specs.Setups.{no_servers};
@@ -31,7 +31,7 @@ use cbsrun_tables::{
 };
 use cbsrun_toml::Stop;
 use std::alloc::Global;
-use toml::Value;
+use toml::{Table, Value};
 
 /// Admits the server of one entry. If `mode` is given, all servers have that mode, and the entry has none.
 fn admit_entry(setup: &mut Setup, mode: Option<Mode>, entry: &Value) -> Result<(), FileKind>
@@ -85,13 +85,11 @@ fn steps_of(
     Ok(steps)
 }
 
-/// Returns the task file that the bytes spell, or its first fault. The whole document is held in memory.
-#[tactic(auto, unfolding(crate::specs::Spelling::file))]
-fn read_whole(alloc: Global, bytes: &[u8]) -> Result<TaskFile, FileFault>
-    ensures { Gives no_memory (λ f. f) result (file bytes.now) }
+/// Returns the task file that a top table spells, or its first fault.
+pub(crate) fn tasks_in(alloc: Global, table: &Table) -> Result<TaskFile, FileFault>
+    ensures { Gives no_memory (λ f. f) result (file_in (table_view table.now)) }
 {
-    let table = at(Place::Top, document(alloc, bytes))?;
-    let top = match top_table(&table) {
+    let top = match top_table(table) {
         Ok(top) => top,
         Err(kind) => return Err(faulty(Place::Top, kind)),
     };
@@ -106,9 +104,18 @@ fn read_whole(alloc: Global, bytes: &[u8]) -> Result<TaskFile, FileFault>
     })
 }
 
+/// Returns the task file that the bytes spell, or its first fault. The whole document is held in memory.
+#[tactic(auto, unfolding(crate::specs::Spelling::file))]
+fn read_whole(alloc: Global, bytes: &[u8]) -> Result<TaskFile, FileFault>
+    ensures { Gives no_memory (λ f. f) result (file bytes.now) }
+{
+    let table = at(Place::Top, document(alloc, bytes))?;
+    tasks_in(alloc, &table)
+}
+
 /// Returns the file of a document whose steps were read apart, or its first fault. Returns `None` if the steps were
 /// read by other terms than the document sets.
-fn finish(alloc: Global, document: Document) -> Option<Result<TaskFile, FileFault>>
+pub(crate) fn finish(alloc: Global, document: Document) -> Option<Result<TaskFile, FileFault>>
     requires { IfSome document.read (λ r. All (IsFileStep document.terms.servers) r.steps.items) }
     ensures { (bytes : List ℕ) → is_utf8 bytes ≡ true
         → IsDocument document document.read (parse_document bytes)

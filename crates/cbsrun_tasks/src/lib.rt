@@ -15,5 +15,5 @@ mod top;
 
 pub use cbsrun_tables::{Bounded, FileFault, FileKind, MEMORY, Place, wants_within};
 pub use file::{read_file, read_file_within};
-pub use kinds::is_load_within;
+pub use kinds::{Found, find_within};
 pub use task_file::{Parts, TaskFile};

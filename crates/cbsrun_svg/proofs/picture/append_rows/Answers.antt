@@ -18,7 +18,7 @@ loop-server-preserved c =
     let old = string_bytes c.args.text.now in
     let rows = rows_text a l c.args.window 11000 (take i ds) in
     record {
-      top = omega (arith, c.row-top.ensures.value, c.loop-server.invariant.top);
+      top = omega (arith, c.loop-server.invariant.top);
       text = c.in_ok-append_server_row.ensures ∙ (ap (λ t. t ++ server_row a l c.args.window c.loop-server.top d) c.loop-server.invariant.text
           ∙ (append_assoc old rows (server_row a l c.args.window c.loop-server.top d)
           ∙ (ap (λ t. old ++ (rows ++ server_row a l c.args.window t d)) c.loop-server.invariant.top

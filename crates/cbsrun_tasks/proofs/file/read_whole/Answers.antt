@@ -1,14 +1,10 @@
-use Rattle.std.proofs.Common.{◌≡◌, rules, Ok, map, sym, ◌∙◌, length, refl, arith}
+use Rattle.std.proofs.Common.{◌≡◌, Ok, sym, ◌∙◌, arith}
 use Rattle.std.proofs.lemmas.Grind.{common_steps}
-use Rattle.toml.specs.View.{view, table_view}
-use Rattle.cbsrun_tables.specs.declared.fault.Place.TheVariants.{Top, Step as AtStep}
-use Rattle.cbsrun_tasks.specs.Entries.{step_entry}
-use Rattle.cbsrun_tables.specs.Fields.{each_from}
-use Rattle.cbsrun_tasks.specs.Spelling.{file, admitted_entry}
-use Rattle.cbsrun_tables.specs.Documents.{at, document, no_memory, taken_in}
-use Rattle.cbsrun_tasks.specs.TopTables.{top_table, top_view}
-use Rattle.cbs_rules.specs.Setups.{no_servers}
+use Rattle.toml.specs.View.{table_view}
+use Rattle.cbsrun_tables.specs.declared.fault.Place.TheVariants.{Top}
+use Rattle.cbsrun_tables.specs.Documents.{at, document, no_memory}
 use Rattle.cbsrun_tables.proofs.Places.{Gives-at, gives_ok}
+use Rattle.cbsrun_tasks.specs.Spelling.{file}
 use Rattle.cbsrun_tasks.proofs.file.read_whole.Goals as goal
 
 pub returns : goal.returns
@@ -17,26 +13,8 @@ returns c =
     let table : at Top (document c.args.bytes.now) ≡ Ok (table_view c.in_ok-table.table) =
     gives_ok no_memory table_view (at Top c.document.result) _ c.in_ok-table.table
     (Gives-at Top table_view c.document.result _ c.document.ensures) (sym c.at.ensures ∙ c.in_ok-table.was) in
-    let top : top_table (table_view c.in_ok-table.table) ≡ Ok (top_view c.in-Ok.top) = sym c.in-Ok.ensures.value in
-    let setup : taken_in (admitted_entry c.in-Ok.top.mode) 0 (no_servers c.in-Ok.top.bound) (map view c.in-Ok.top.servers.now.items)
-    ≡ Ok c.in_ok-setup.setup = rw (← c.deref.ensures.value) (sym c.in_ok-setup.ensures) in
-    let len : c.len-servers.result ≡ length c.in_ok-setup.setup.plan.rates = search rules in
-    let steps : each_from 0 (λ i entry. at (AtStep i) (step_entry c.in-Ok.top.format (length c.in_ok-setup.setup.plan.rates) entry))
-    (map view c.in-Ok.top.steps.now.items) ≡ Ok c.in_ok-steps.steps.items = rw (← c.deref-2.ensures.value, ← len) c.in_ok-steps.ensures.steps in
-    rw (table, top, setup, steps) refl
+    rw table c.tasks_in.ensures
 
 pub returns-in_err-table : goal.returns-in_err-table
 unfolding file
 returns-in_err-table c = grind (arith, common_steps)
-
-pub returns-in-Err : goal.returns-in-Err
-unfolding file
-returns-in-Err c = grind (arith, common_steps)
-
-pub returns-in_err-setup : goal.returns-in_err-setup
-unfolding file
-returns-in_err-setup c = grind (arith, common_steps)
-
-pub returns-in_err-steps : goal.returns-in_err-steps
-unfolding file
-returns-in_err-steps c = grind (arith, common_steps)
