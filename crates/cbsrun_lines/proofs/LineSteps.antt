@@ -1,11 +1,11 @@
 -- The lines of steps, written line by line.
-use Rattle.std.proofs.Common.{◌≡◌, ◌⊎◌, ◌+◌, ◌++◌, ℕ, true, false, List, [], ◌∷◌, ap, inl, inr, refl, sym, ◌∙◌, append_assoc, Result, Ok, Err}
+use Rattle.std.proofs.Common.{◌≡◌, ◌+◌, ◌++◌, ℕ, true, false, List, [], ◌∷◌, ap, inl, inr, refl, sym, ◌∙◌, append_assoc, Result, Ok, Err}
 use Rattle.std.specs.Prelude.{IsOk, OnErr, OnOk}
 use Rattle.std.proofs.lemmas.List.{append-nil}
 use Rattle.cbsrun_events.specs.declared.seen.Seen.{Seen}
 use Rattle.cbsrun_lines.specs.Lines.{lines_of, line_of}
 use Rattle.cbsrun_lines.specs.Traces.{WritesSomeLines}
-use Rattle.cbsrun_lines.specs.WritingLines.{HasWritten, FailedToWrite, WroteSome}
+use Rattle.cbsrun_lines.specs.WritingLines.{HasWritten, FailedToWrite, WroteSome, WroteShown}
 use Rattle.cbsrun_lines.specs.Writers.{Writer, Writes, WritesAllBut, FailsToWrite}
 use Rattle.cbsrun_io.specs.Writes.{AppendsFront, AppendsAllBut}
 use Rattle.cbsrun_lines.specs.declared.lines.Lines.{Lines}
@@ -145,25 +145,29 @@ module _ (lines : Lines) (old mid : Writer) (steps : List Seen) (some : WroteSom
       let h = some_written well in
       fails_in_all old new h.later h.done steps h.all (flush_failed old mid new lines h.done h.has fails)
 
+-- what is written of the lines of steps, by the result with which they were shown
+pub wrote_shown : {T E : Type 0} (lines : Lines) (old mid : Writer) (steps : List Seen) (shown : Result T E) → OnOk shown (HasWritten lines old mid steps)
+    → OnErr shown (WroteSome lines old mid steps) → WroteShown shown lines old mid steps
+wrote_shown lines old mid steps (Ok x) ok err = ok
+wrote_shown lines old mid steps (Err e) ok err = err
+
 -- what is known of lines once steps were shown to them, whatever the result
 module _ {T E : Type 0} (lines : Lines) (old mid : Writer) (steps : List Seen) where
   -- if a write failed, a prefix of the lines is written
-  pub fault_ends : (shown : Result T E) → OnOk shown (HasWritten lines old mid steps) → OnErr shown (WroteSome lines old mid steps)
-      → lines.write_failed ≡ true → FailsToWrite old mid (lines_of steps)
-  fault_ends (Ok x) ok err flag = let f = ok.well in absurd cc
-  fault_ends (Err e) ok err flag = prefix_written lines old mid steps err flag
+  pub fault_ends : (shown : Result T E) → WroteShown shown lines old mid steps → lines.write_failed ≡ true → FailsToWrite old mid (lines_of steps)
+  fault_ends (Ok x) has flag = let f = has.well in absurd cc
+  fault_ends (Err e) some flag = prefix_written lines old mid steps some flag
 
   -- if none did, no call failed
-  pub none_ends : (shown : Result T E) → OnOk shown (HasWritten lines old mid steps) → OnErr shown (WroteSome lines old mid steps)
-      → lines.write_failed ≡ false → mid.failed ≡ old.failed
-  none_ends (Ok x) ok err well = ok.writes.1
-  none_ends (Err e) ok err well = none_failed lines old mid steps err well
+  pub none_ends : (shown : Result T E) → WroteShown shown lines old mid steps → lines.write_failed ≡ false → mid.failed ≡ old.failed
+  none_ends (Ok x) has well = has.writes.1
+  none_ends (Err e) some well = none_failed lines old mid steps some well
 
   -- and if what waits cannot be written, a prefix of the lines is
-  pub flush_ends : (shown : Result T E) → OnOk shown (HasWritten lines old mid steps) → OnErr shown (WroteSome lines old mid steps)
-      → lines.write_failed ≡ false → (new : Writer) → FailsToWrite mid new lines.pending → FailsToWrite old new (lines_of steps)
-  flush_ends (Ok x) ok err well new fails = flush_failed old mid new lines steps ok fails
-  flush_ends (Err e) ok err well new fails = some_flush_failed lines old mid steps err new well fails
+  pub flush_ends : (shown : Result T E) → WroteShown shown lines old mid steps → lines.write_failed ≡ false
+      → (new : Writer) → FailsToWrite mid new lines.pending → FailsToWrite old new (lines_of steps)
+  flush_ends (Ok x) has well new fails = flush_failed old mid new lines steps has fails
+  flush_ends (Err e) some well new fails = some_flush_failed lines old mid steps some new well fails
 
 -- what holds if steps were shown to their end holds if all was written
 pub ok_both : {T U E D : Type 0} (P : Type 0) (r : Result T E) (shown : Result U D) → OnOk r (IsOk shown) → OnOk shown P → OnOk r P

@@ -1,5 +1,5 @@
 -- The lines of a task file and of a load: those of their steps.
-use Rattle.std.specs.Prelude.{◌≡◌, ℕ, List, ◌++◌}
+use Rattle.std.specs.Prelude.{◌≡◌, ℕ, List, ◌++◌, Result}
 use Rattle.cbsrun_loads.specs.Loads.{LoadFile}
 use Rattle.cbsrun_tasks.specs.TaskFiles.{File}
 use Rattle.cbsrun_runs.specs.Loads.{seen_in}
@@ -7,7 +7,7 @@ use Rattle.cbsrun_runs.specs.Tasks.{seen_in_tasks}
 use Rattle.cbsrun_events.specs.declared.seen.Seen.{Seen}
 use Rattle.cbsrun_lines.specs.Lines.{lines_of}
 use Rattle.cbsrun_io.specs.Writes.{AppendsFront}
-use Rattle.cbsrun_lines.specs.Writers.{Writer, Writes, StopsWriting}
+use Rattle.cbsrun_lines.specs.Writers.{Writer, Writes, StopsWriting, Leaves}
 use Rattle.cbsrun_lines.specs.declared.run_error.RunError.{RunError}
 
 -- the lines of a task file
@@ -34,3 +34,7 @@ pub record WritesSomeLines (steps : List Seen) (old new : Writer) : Type 0 where
 -- step. If a write failed, a prefix of the lines was written. There is no other cause
 abbrev pub LinesStop : List Seen → RunError → Writer → Writer → Type 0
 LinesStop steps = StopsWriting (lines_of steps) (WritesSomeLines steps)
+
+-- the result of the writing of the lines of steps, and what it left on the writer
+abbrev pub LeavesLines : List Seen → Result (Unit {0}) RunError → Writer → Writer → Type 0
+LeavesLines steps = Leaves (lines_of steps) (LinesStop steps)

@@ -1,5 +1,5 @@
 -- What is written of the lines of steps while the steps are made; for the code alone.
-use Rattle.std.specs.Prelude.{◌≡◌, ◌⊎◌, true, false, List, ◌∷◌, ◌++◌}
+use Rattle.std.specs.Prelude.{◌≡◌, ◌⊎◌, true, false, List, ◌∷◌, ◌++◌, Result, Ok, Err}
 use Rattle.cbsrun_events.specs.declared.seen.Seen.{Seen}
 use Rattle.cbsrun_lines.specs.Lines.{lines_of}
 use Rattle.cbsrun_lines.specs.Writers.{Writer, WritesAllBut, FailsToWrite}
@@ -23,3 +23,8 @@ pub record WroteSome (lines : Lines) (old new : Writer) (steps : List Seen) : Ty
   pub done : List Seen
   pub all : later ++ done ≡ steps
   pub wrote : HasWritten lines old new done ⊎ FailedToWrite lines old new done
+
+-- what was written so of the lines of steps that were shown with this result
+abbrev pub WroteShown : {T E : Type 0} → Result T E → Lines → Writer → Writer → List Seen → Type 0
+WroteShown (Ok x) = HasWritten
+WroteShown (Err e) = WroteSome

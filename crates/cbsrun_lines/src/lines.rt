@@ -1,11 +1,11 @@
 //! The lines of a run, written while its steps are made.
 
-ghost use Rattle.std.specs.Prelude.{◌≡◌, false, [], List, IfOk, IsOk, OnOk, OnErr};
+ghost use Rattle.std.specs.Prelude.{◌≡◌, false, [], List, IfOk, IsOk, OnOk};
+ghost use Rattle.std.specs.Bool.{OnTrue};
 ghost use Rattle.cbsrun_events.specs.declared.seen.Seen.{Seen};
-ghost use Rattle.cbsrun_lines.specs.Lines.{lines_of};
-ghost use Rattle.cbsrun_lines.specs.Traces.{LinesStop};
-ghost use Rattle.cbsrun_lines.specs.Writers.{Writer, MayWrite, Leaves};
-ghost use Rattle.cbsrun_lines.specs.WritingLines.{HasWritten, WroteSome};
+ghost use Rattle.cbsrun_lines.specs.Traces.{LeavesLines};
+ghost use Rattle.cbsrun_lines.specs.Writers.{Writer, MayWrite};
+ghost use Rattle.cbsrun_lines.specs.WritingLines.{WroteShown};
 
 use crate::line::write_line;
 use crate::run_error::RunError;
@@ -43,9 +43,8 @@ impl Lines {
         requires { self.old.write_failed ≡ false → MayWrite (O.state out.old) }
         ensures shown { OnOk result (IsOk shown) }
         ensures written { (first : Writer) (steps : List Seen)
-            → OnOk shown (HasWritten self.old first (O.state out.old) steps)
-            → OnErr shown (WroteSome self.old first (O.state out.old) steps)
-            → Leaves (lines_of steps) (LinesStop steps) result first (O.state out.new) }
+            → WroteShown shown self.old first (O.state out.old) steps
+            → LeavesLines steps result first (O.state out.new) }
     {
         if self.write_failed {
             return Err(RunError::WriteFault);
@@ -78,7 +77,7 @@ impl<O: ByteOutput> View<O> for Lines {
     }
 }
 
-/// Makes the steps of a run, and writes a line for each step.
+/// Makes the steps of a run, and writes a line for each step. A load is unchanged.
 ///
 /// Refuses with [`RunError::OutOfMemory`] if out of memory: then the lines of the first steps are written, up to some
 /// step. Refuses with [`RunError::WriteFault`] if a write fails or takes no byte: then a prefix of the whole text is
@@ -89,9 +88,9 @@ pub fn write_lines<R: Run, O: ByteOutput>(
     out: &mut O,
 ) -> Result<(), RunError>
     requires { MayWrite (O.state out.old) }
-    ensures written { Leaves (lines_of (R.run run.old).seen) (LinesStop (R.run run.old).seen) result
-        (O.state out.old) (O.state out.new) }
+    ensures written { LeavesLines (R.run run.old).seen result (O.state out.old) (O.state out.new) }
     ensures lawful { OnOk result (R.lawful run.old) }
+    ensures leaves { OnTrue R.repeats (run.new ≡ run.old) }
 {
     let mut lines = Lines::new(alloc)?;
     let shown = run.show(alloc, &mut lines, out);

@@ -6,5 +6,6 @@ mod Servers
 mod KeptReports
 mod KeptMoves
 mod TaskSteps
+mod MadeSteps
 mod TaskTurns
 mod Drawings

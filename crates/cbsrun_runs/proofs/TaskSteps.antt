@@ -1,5 +1,5 @@
 -- The steps of a task file, as a view sees them, one after another.
-use Rattle.std.proofs.Common.{◌≡◌, ◌∙◌, ℕ, List, [], ◌∷◌, ◌++◌, append_assoc, Result, Ok, Err, ap, refl, subst, sym}
+use Rattle.std.proofs.Common.{◌≡◌, ◌∙◌, List, [], ◌∷◌, ◌++◌, append_assoc, Result, Ok, Err, ap, inl, refl, sym}
 use Rattle.std.specs.Prelude.{OnErr, OnOk}
 use Rattle.cbs_core.specs.Agreement.{Agrees}
 use Rattle.cbs_core.specs.Held.{CoreHeld}
@@ -17,13 +17,6 @@ use Rattle.cbsrun_runs.specs.Tasks.{seen_after, seen_from, StopsAmong}
 pub none_seen : (M : History FileJob) (seen : List Seen) → seen_from M [] seen ≡ seen
 unfolding seen_from
 none_seen M seen = refl
-
--- one step more
-pub seen_more : (M : History FileJob) (xs : List (Step FileJob)) (x : Step FileJob) (seen : List Seen)
-    → seen_from M (xs ++ x ∷ []) seen ≡ seen_after (M ⊕⊕ xs) x ∷ seen_from M xs seen
-unfolding seen_from
-seen_more M [] x seen = refl
-seen_more M (y ∷ ys) x seen = seen_more (M ⊕ y) ys x (seen_after M y ∷ seen)
 
 -- one step alone
 pub one_seen : (M : History FileJob) (x : Step FileJob) (seen : List Seen) → seen_from M (x ∷ []) seen ≡ seen_after M x ∷ seen
@@ -45,13 +38,6 @@ seen_before M (x ∷ xs) seen =
     seen_before (M ⊕ x) xs (o ∷ seen) ∙ sym (append_assoc (seen_from (M ⊕ x) xs []) (o ∷ []) seen)
     ∙ ap (λ os. os ++ seen) (sym (seen_before (M ⊕ x) xs (o ∷ [])))
 
--- a core of which only room changed agrees with the same histories
-pub lacking_agrees : (old new : CoreHeld FileJob) (M : History FileJob) → new ≡ record old { rooms = new.rooms } → Agrees of_files old M → Agrees of_files new M
-lacking_agrees old new M same agrees = let a = agrees.world in
-    subst (λ core. Agrees of_files core M) (sym same) (record {
-      world = record { same_backlog = a.same_backlog; clock = a.clock; shown = a.shown; jobs = a.jobs; runs = a.runs; latest = a.latest };
-    })
-
 -- a core and a view that were stopped at a step, after some steps before it
 pub stops_later : {S : Type 0} (saw failed : S → S → List Seen → Type 0) (M : History FileJob) (xs ys zs all : List (Step FileJob)) (new : CoreHeld FileJob)
     (old between now : S) → xs ++ (ys ++ zs) ≡ all → ((first : S) (seen : List Seen) → saw first old seen → saw first between (seen_from M xs seen))
@@ -62,6 +48,17 @@ stops_later saw failed M xs ys zs all new old between now whole sees h = record 
   all = append_assoc xs h.made (h.left ++ zs) ∙ ap (λ l. xs ++ l) (sym (append_assoc h.made h.left zs) ∙ ap (λ l. l ++ zs) h.all) ∙ whole;
   state = rw (after-append M xs h.made) h.state;
   seen = λ first seen saw_old. rw (seen_both M xs h.made seen) (h.seen first (seen_from M xs seen) (sees first seen saw_old));
+}
+
+-- a core and a view that were stopped before the step
+pub stops_before : {S : Type 0} (saw failed : S → S → List Seen → Type 0) (M : History FileJob) (x : Step FileJob) (new : CoreHeld FileJob) (now : S)
+    → Agrees of_files new M → StopsAmong saw failed M (x ∷ []) new now now
+stops_before saw failed M x new now agrees = record {
+  made = [];
+  left = x ∷ [];
+  all = refl;
+  state = agrees;
+  seen = λ first seen saw. inl (rw (none_seen M seen) saw);
 }
 
 -- what always holds also holds for a result

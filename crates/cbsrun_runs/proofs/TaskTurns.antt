@@ -23,13 +23,12 @@ use Rattle.cbs_steps.specs.declared.step.Step.TheVariants as step
 use Rattle.cbsrun_events.specs.Events.{begun, server_of, ticks_of_run}
 use Rattle.cbsrun_events.specs.declared.seen.Seen.{Seen}
 use Rattle.cbsrun_runs.specs.Tasks.{clock_after, seen_after, seen_from, seen_of_step}
-use Rattle.cbsrun_runs.specs.declared.task_steps.Asked.TheVariants as asked
 use Rattle.cbsrun_runs.proofs.ThrottledTicks.{in_turn_later}
 
 -- a step begins at the clock before it
 module _ (w : World FileJob) where
   submit_begins : (s : ℕ) (job : FileJob) (o : Option CoreError)
-      → w.now ≤ begun (seen_of_step (after_submit of_files w s job o) (asked.Submit s (of_files.left job)) (submit_reply w s job o))
+      → w.now ≤ begun (seen_of_step (after_submit of_files w s job o) (step.Submit s job) (submit_reply w s job o))
   submit_begins s job None = omega arith
   submit_begins s job (Some e) = omega arith
 
@@ -44,7 +43,7 @@ module _ (w : World FileJob) where
       of_either false k n = refl
 
   run_begins : (o : Option ℕ)
-      → (let v = after_run w (if ltb w.now clock_end then o else None) in w.now ≤ begun (seen_of_step v asked.Run (reply.Ran (run_reply of_files w o))))
+      → (let v = after_run w (if ltb w.now clock_end then o else None) in w.now ≤ begun (seen_of_step v step.Run (reply.Ran (run_reply of_files w o))))
   run_begins None = elim (cases_Bool (ltb w.now clock_end)) [
     | inl y ↦ rw y (omega arith)
     | inr n ↦ rw n (omega arith)
@@ -59,16 +58,16 @@ module _ (w : World FileJob) where
 
   advance_begins : (n : ℕ) (b : Bool)
       → (let v = if b then after_advance w n else w in
-      w.now ≤ begun (seen_of_step v (asked.Advance n) (if b then reply.Advanced else reply.Refused error.ClockEnd)))
+      w.now ≤ begun (seen_of_step v (step.Advance n) (if b then reply.Advanced else reply.Refused error.ClockEnd)))
   advance_begins n false = omega arith
   advance_begins zero true = omega arith
   advance_begins (suc n) true = rw (advance_jumps w (suc n) (omega arith)) (omega arith)
 
-  close_begins : (s : ℕ) (o : Option CoreError) → w.now ≤ begun (seen_of_step (after_closing w s o) (asked.Close s) (close_reply o))
+  close_begins : (s : ℕ) (o : Option CoreError) → w.now ≤ begun (seen_of_step (after_closing w s o) (step.Close s) (close_reply o))
   close_begins s None = omega arith
   close_begins s (Some e) = omega arith
 
-  charge_begins : (s n : ℕ) (o : Option CoreError) → w.now ≤ begun (seen_of_step (after_charging w s n o) (asked.Charge s n) (charge_reply o))
+  charge_begins : (s n : ℕ) (o : Option CoreError) → w.now ≤ begun (seen_of_step (after_charging w s n o) (step.Charge s n) (charge_reply o))
   charge_begins s zero None = omega arith
   charge_begins s (suc n) None = rw (charge_jumps w s (suc n) (omega arith)) (omega arith)
   charge_begins s zero (Some e) = omega arith

@@ -1,6 +1,6 @@
 -- The throttled ticks that are computed from a server's own steps are the ticks at which it waits.
 use Rattle.std.proofs.Common.{◌≡◌, ℕ, zero, suc, ◌+◌, ◌-◌, ◌≤◌, ◌<◌, Bool, true, false, not, ◌&&◌, leb, ltb}
-use Rattle.std.proofs.Common.{List, [], ◌∷◌, length, map, arith, refl, ap, sym, subst, ◌∙◌, inl, inr, Option}
+use Rattle.std.proofs.Common.{List, [], ◌∷◌, length, map, arith, refl, ap, sym, subst, ◌∙◌, inl, inr}
 use Rattle.std.proofs.lemmas.Bool.Decides.{nat_tests}
 use Rattle.cbs_core.specs.Held.{CoreHeld}
 use Rattle.cbsrun_loads.specs.Loads.{LoadFile}

@@ -20,16 +20,6 @@ use Rattle.cbsrun_events.specs.declared.seen.Event.{Event}
 use Rattle.cbsrun_events.specs.declared.seen.Event.TheVariants as event
 use Rattle.cbsrun_events.specs.declared.seen.Seen.{Seen}
 use Rattle.cbsrun_runs.specs.Runs.{Shown}
-use Rattle.cbsrun_runs.specs.declared.task_steps.Asked.{Asked}
-use Rattle.cbsrun_runs.specs.declared.task_steps.Asked.TheVariants.{Submit, Run, Advance, Close, Charge}
-
--- the request of a step, without its job
-abbrev pub asked_of : Step FileJob → Asked
-asked_of (step.Submit s job) = Submit s (of_files.left job)
-asked_of step.Run = Run
-asked_of (step.Advance n) = Advance n
-asked_of (step.Close s) = Close s
-asked_of (step.Charge s n) = Charge s n
 
 -- a job that is submitted at a tick. There is no number of ticks within which it is to be finished
 abbrev pub task_arrival : ℕ → ℕ → ℕ → Arrival
@@ -37,20 +27,25 @@ task_arrival now s units = record { server = s; came = now; units = units; withi
 
 -- the event of a step, by its reply and by the world after it. A submit takes no tick, so the clock after it is the
 -- tick at which it came
-abbrev pub event_of_step : World FileJob → Asked → Reply FileJob → Event
-event_of_step w (Submit s units) r = submit_seen (task_arrival w.now s units) (answer_in r) (promised_in of_files w s (answer_in r))
-event_of_step w Run r = event.Ran (ran_in r)
-event_of_step w (Advance n) r = advance_seen n (refusal_in r)
-event_of_step w (Close s) r = close_seen s (refusal_in r)
-event_of_step w (Charge s n) r = charge_seen s n (refusal_in r)
+abbrev pub event_of_step : World FileJob → Step FileJob → Reply FileJob → Event
+event_of_step w (step.Submit s job) r =
+    submit_seen (task_arrival w.now s (of_files.left job)) (answer_in r) (promised_in of_files w s (answer_in r))
+event_of_step w step.Run r = event.Ran (ran_in r)
+event_of_step w (step.Advance n) r = advance_seen n (refusal_in r)
+event_of_step w (step.Close s) r = close_seen s (refusal_in r)
+event_of_step w (step.Charge s n) r = charge_seen s n (refusal_in r)
 
 -- a step, as a view sees it, by its reply and by the world after it
-abbrev pub seen_of_step : World FileJob → Asked → Reply FileJob → Seen
+abbrev pub seen_of_step : World FileJob → Step FileJob → Reply FileJob → Seen
 seen_of_step w x r = seen_at w.now (faces of_files w) (event_of_step w x r)
+
+-- the event of the step x after the history M
+abbrev pub event_after : History FileJob → Step FileJob → Event
+event_after M x = event_of_step (world_after of_files (M ⊕ x)) x (reply_in of_files M x)
 
 -- the step x after the history M, as a view sees it
 abbrev pub seen_after : History FileJob → Step FileJob → Seen
-seen_after M x = seen_of_step (world_after of_files (M ⊕ x)) (asked_of x) (reply_in of_files M x)
+seen_after M x = seen_of_step (world_after of_files (M ⊕ x)) x (reply_in of_files M x)
 
 -- steps after the history M, as a view sees them. They stand with the newest first, before what was seen earlier
 unfoldable pub seen_from : History FileJob → List (Step FileJob) → List Seen → List Seen
@@ -72,6 +67,25 @@ pub record StopsAmong {S : Type 0} (saw failed : S → S → List Seen → Type 
 abbrev pub CompletesAll : History FileJob → List (Step FileJob) → ℕ → Type 0
 CompletesAll M steps s =
     Completes of_files (account_in of_files M s) (account_in of_files (M ⊕⊕ steps) s) (completions_of s (replies_after of_files M steps))
+
+-- a core made the step x after the history M, with this event. The completions of each server go on by those of the step
+pub record HasMade (M : History FileJob) (x : Step FileJob) (new : CoreHeld FileJob) (event : Event) : Type 0 where
+  pub state : Agrees of_files new (M ⊕ x)
+  pub told : event ≡ event_after M x
+  pub completes : (s : ℕ) → CompletesAll M (x ∷ []) s
+
+-- the core did so, whatever history it agreed with before
+abbrev pub MakesStep : CoreHeld FileJob → Step FileJob → CoreHeld FileJob → Event → Type 0
+MakesStep old x new event = (M : History FileJob) → Agrees of_files old M → HasMade M x new event
+
+-- a view of a core that made these steps saw each of them, after what it saw before
+abbrev pub SeesAll : {S : Type 0} → (S → S → List Seen → Type 0) → CoreHeld FileJob → List (Step FileJob) → S → S → Type 0
+SeesAll {S} saw core xs old now = (M : History FileJob) → Agrees of_files core M
+    → (first : S) (seen : List Seen) → saw first old seen → saw first now (seen_from M xs seen)
+
+-- the completions of each server among the replies to these steps of a core go on so
+abbrev pub AllComplete : CoreHeld FileJob → List (Step FileJob) → Type 0
+AllComplete core xs = (M : History FileJob) → Agrees of_files core M → (s : ℕ) → CompletesAll M xs s
 
 -- servers with this backlog, before the first step
 abbrev pub start_with : ModedPlan → ℕ → History FileJob

@@ -1,6 +1,7 @@
 //! The picture of a run.
 
 ghost use Rattle.std.specs.Prelude.{◌≡◌, ◌≤◌, ◌<◌, IfOk, OnOk, Some, length, slice_get, string_bytes};
+ghost use Rattle.std.specs.Bool.{OnTrue};
 ghost use Rattle.cbsrun_chart.specs.Charts.{IsChart};
 ghost use Rattle.cbsrun_runs.specs.Runs.{AreInOrder, IsChartPicture, IsPictureOf, SameServers};
 
@@ -22,6 +23,7 @@ fn chart_of<R: Run, P: Progress>(
         (R.run run.old).seen) }
     ensures in_order { OnOk result (AreInOrder (R.run run.old)) }
     ensures servers { OnOk result (SameServers (R.run run.old) (R.run run.new)) }
+    ensures leaves { OnTrue R.repeats (run.new ≡ run.old) }
 {
     let view = ChartView::new(alloc, window, run.plan())?;
     let mut telling = Telling::new(view, run.until());
@@ -89,7 +91,8 @@ fn picture_of_chart<R: Run>(
 }
 
 /// Returns the picture of a window of a run, whose steps it makes. The picture names the file `file`. Reports to
-/// `progress` now and then how far the run is, if its end is known. The only error is out of memory.
+/// `progress` now and then how far the run is, if its end is known. A load is unchanged. The only error is out of
+/// memory.
 ///
 /// Ticks outside of the window take no memory. [`shown_of`](crate::shown_of) returns a window that ends with the run.
 pub fn picture_of<R: Run, P: Progress>(
@@ -101,6 +104,7 @@ pub fn picture_of<R: Run, P: Progress>(
 ) -> Result<Picture, AllocError>
     ensures picture { IfOk result (IsPictureOf file.now (R.run run.old) window) }
     ensures few { IfOk result (λ p. length p.servers.items ≤ 64) }
+    ensures leaves { OnTrue R.repeats (run.new ≡ run.old) }
 {
     let chart = chart_of(alloc, run, window, progress)?;
     picture_of_chart(alloc, file, run, chart)

@@ -1,6 +1,7 @@
 //! The report of a run.
 
 ghost use Rattle.std.specs.Prelude.{◌≡◌, ◌≤◌, ◌<◌, IfOk, OnOk, length, map, slice_get, string_bytes, Some};
+ghost use Rattle.std.specs.Bool.{OnTrue};
 ghost use Rattle.cbsrun_figures.specs.Figures.{told, total};
 ghost use Rattle.cbsrun_figures.specs.Reports.{AreAllFigures};
 ghost use Rattle.cbsrun_figures.specs.Tallies.{ticks_idle};
@@ -34,6 +35,7 @@ fn outcome_of<R: Run, P: Progress>(
     ensures end { IfOk result (λ o. o.end ≡ (R.run run.old).end) }
     ensures lawful { OnOk result (R.lawful run.old) }
     ensures servers { OnOk result (SameServers (R.run run.old) (R.run run.new)) }
+    ensures leaves { OnTrue R.repeats (run.new ≡ run.old) }
 {
     let report = Report::new(alloc, run.plan())?;
     let mut telling = Telling::new(report, run.until());
@@ -71,7 +73,7 @@ fn server_report<R: Run>(
 }
 
 /// Returns the report of a run, whose steps it makes. The report names the file `file`. Reports to `progress` now and
-/// then how far the run is, if its end is known. The only error is out of memory.
+/// then how far the run is, if its end is known. A load is unchanged. The only error is out of memory.
 pub fn report_of<R: Run, P: Progress>(
     alloc: Global,
     file: &str,
@@ -81,6 +83,7 @@ pub fn report_of<R: Run, P: Progress>(
     ensures report { IfOk result (IsReportOf file.now (R.run run.old)) }
     ensures lawful { OnOk result (R.lawful run.old) }
     ensures few { IfOk result (λ r. length r.servers.items ≤ 64) }
+    ensures leaves { OnTrue R.repeats (run.new ≡ run.old) }
 {
     let outcome = outcome_of(alloc, run, progress)?;
     let mut servers = Vec::with_capacity(alloc, outcome.figures.len())?;

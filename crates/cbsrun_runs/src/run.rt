@@ -1,6 +1,7 @@
 //! Runs: servers, and the steps that are made on them, which can be shown.
 
-ghost use Rattle.std.specs.Prelude.{◌≡◌, ◌<◌, [], IfOk, IfSome, OnErr, OnOk, Some, length, slice_get, string_bytes};
+ghost use Rattle.std.specs.Prelude.{◌≡◌, ◌<◌, [], Bool, false, IfOk, IfSome, OnErr, OnOk, Some, length, slice_get, string_bytes};
+ghost use Rattle.std.specs.Bool.{OnTrue};
 ghost use Rattle.cbsrun_runs.specs.Runs.{Shown, AreInOrder, HasServers, SameServers};
 ghost use Rattle.cbsrun_runs.specs.Showing.{SawSome};
 
@@ -18,6 +19,9 @@ pub trait Run {
 
     // What the rules give of such a run, besides its steps.
     ghost lawful: { Self → Type 0 } = { λ _. Unit {0} };
+
+    // Whether showing the run leaves it as it was, so that it shows the same again.
+    ghost repeats: { Bool } = { false };
 
     /// Returns the reservations of the servers, and the bound on their total bandwidth.
     fn plan(&self) -> &Plan
@@ -51,8 +55,8 @@ pub trait Run {
     fn until(&self) -> Option<u64>
         ensures { IfSome result (λ end. end ≡ (run self.now).end) };
 
-    /// Makes the steps, and shows each to the view. Returns the tick at which they end. The view has to be ready. A run
-    /// can be shown once.
+    /// Makes the steps, and shows each to the view. Returns the tick at which they end. The view has to be ready. A load
+    /// is unchanged, and can be shown again. A task file can be shown once.
     ///
     /// Refuses if out of memory, or if the view fails. The view has then seen the first steps, up to some step. It may
     /// have failed to see the last of these.
@@ -70,5 +74,6 @@ pub trait Run {
             → SawSome V.saw V.failed first (view.new, lent.new) (run self.old).seen) }
         ensures in_order { OnOk result (AreInOrder (run self.old)) }
         ensures lawful { OnOk result (lawful self.old) }
-        ensures servers { OnOk result (SameServers (run self.old) (run self.new)) };
+        ensures servers { OnOk result (SameServers (run self.old) (run self.new)) }
+        ensures leaves { OnTrue repeats (self.new ≡ self.old) };
 }

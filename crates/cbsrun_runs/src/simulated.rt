@@ -1,5 +1,6 @@
 //! A load as a run: its jobs are simulated.
 
+ghost use Rattle.std.specs.Prelude.{true};
 ghost use Rattle.cbsrun_runs.specs.Kept.{IsKept};
 ghost use Rattle.cbsrun_runs.specs.Loads.{run_of};
 
@@ -17,6 +18,8 @@ impl Run for Load {
     ghost run = { run_of };
 
     ghost lawful = { IsKept };
+
+    ghost repeats = { true };
 
     fn plan(&self) -> &Plan {
         Load::plan(self)

@@ -1,8 +1,6 @@
 use Rattle.std.proofs.Common.{arith}
 use Rattle.std.proofs.lemmas.Result.{err_from_is_err_and, on_err_weaker, on_ok_weaker}
-use Rattle.std.specs.Prelude.{OnErr, OnOk}
-use Rattle.cbsrun_lines.specs.WritingLines.{HasWritten, WroteSome}
-use Rattle.cbsrun_lines.proofs.LineSteps.{begins, none_ends, nothing_written, ok_both}
+use Rattle.cbsrun_lines.proofs.LineSteps.{begins, none_ends, nothing_written, ok_both, wrote_shown}
 use Rattle.cbsrun_lines.proofs.lines.write_lines.Goals as goal
 
 pub returns-in_err-lines-clause-written : goal.returns-in_err-lines-clause-written
@@ -17,12 +15,11 @@ end-requires g c = λ well.
     let old = g.O.ByteOutput.state c.args.out.now in
     let mid = g.O.ByteOutput.state shown.new.lent in
     let start = begins c.in_ok-lines.lines old c.in_ok-lines.ensures.0 c.in_ok-lines.ensures.1 in
-    let ok : OnOk shown.result (HasWritten shown.new.view old mid steps) =
-    on_ok_weaker shown.result (λ seen. seen (c.in_ok-lines.lines, c.args.out.now) start) shown.ensures.seen in
-    let err : OnErr shown.result (WroteSome shown.new.view old mid steps) =
-    on_err_weaker shown.result (λ stops. let h = stops (c.in_ok-lines.lines, c.args.out.now) start in
-    record { later = h.later; done = h.done; all = h.all; wrote = h.seen }) shown.ensures.stopped in
-    let same = none_ends shown.new.view old mid steps shown.result ok err well in
+    let wrote = wrote_shown shown.new.view old mid steps shown.result
+    (on_ok_weaker shown.result (λ seen. seen (c.in_ok-lines.lines, c.args.out.now) start) shown.ensures.seen)
+    (on_err_weaker shown.result (λ stops. let h = stops (c.in_ok-lines.lines, c.args.out.now) start in
+    record { later = h.later; done = h.done; all = h.all; wrote = h.seen }) shown.ensures.stopped) in
+    let same = none_ends shown.new.view old mid steps shown.result wrote well in
     let few = c.requires in
     omega arith
 
@@ -33,12 +30,10 @@ returns-clause-written g c =
     let old = g.O.ByteOutput.state c.args.out.now in
     let mid = g.O.ByteOutput.state shown.new.lent in
     let start = begins c.in_ok-lines.lines old c.in_ok-lines.ensures.0 c.in_ok-lines.ensures.1 in
-    let ok : OnOk shown.result (HasWritten shown.new.view old mid steps) =
-    on_ok_weaker shown.result (λ seen. seen (c.in_ok-lines.lines, c.args.out.now) start) shown.ensures.seen in
-    let err : OnErr shown.result (WroteSome shown.new.view old mid steps) =
-    on_err_weaker shown.result (λ stops. let h = stops (c.in_ok-lines.lines, c.args.out.now) start in
-    record { later = h.later; done = h.done; all = h.all; wrote = h.seen }) shown.ensures.stopped in
-    c.end.ensures.written old steps ok err
+    c.end.ensures.written old steps (wrote_shown shown.new.view old mid steps shown.result
+    (on_ok_weaker shown.result (λ seen. seen (c.in_ok-lines.lines, c.args.out.now) start) shown.ensures.seen)
+    (on_err_weaker shown.result (λ stops. let h = stops (c.in_ok-lines.lines, c.args.out.now) start in
+    record { later = h.later; done = h.done; all = h.all; wrote = h.seen }) shown.ensures.stopped))
 
 pub returns-clause-lawful : goal.returns-clause-lawful
 returns-clause-lawful g c = ok_both _ c.end.result c.show-shown.result c.end.ensures.shown c.show-shown.ensures.lawful

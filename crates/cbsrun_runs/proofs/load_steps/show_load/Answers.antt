@@ -1,4 +1,4 @@
-use Rattle.std.proofs.Common.{◌≡◌, ◌∙◌, [], ap, map}
+use Rattle.std.proofs.Common.{◌≡◌, [], ap, map}
 use Rattle.cbsrun_simulate.specs.Drawing.{pending, released_by_all}
 use Rattle.cbsrun_simulate.specs.Merging.{merged}
 use Rattle.cbsrun_runs.specs.Loads.{start_of}

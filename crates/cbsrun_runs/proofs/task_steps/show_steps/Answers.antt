@@ -1,11 +1,12 @@
 use Rattle.std.proofs.Common.{◌≡◌, ◌∙◌, ◌++◌, ◌∷◌, [], append_assoc, ap, sym, length, arith, rules}
 use Rattle.std.proofs.lemmas.List.{nil_from_length}
 use Rattle.std.specs.Vec.Iter.{into_iter_items}
-use Rattle.cbs_core.proofs.Laws.{Completes-none, after-push, steps_complete, all_yielded}
+use Rattle.cbs_core.proofs.Laws.{Completes-none, after-push, all_yielded}
 use Rattle.cbs_steps.specs.Laws.{account_in}
 use Rattle.cbs_job.specs.FileJobs.{of_files}
 use Rattle.cbs_steps.specs.Continuations.{◌⊕⊕◌}
-use Rattle.cbsrun_runs.proofs.TaskSteps.{none_seen, on_err_always, seen_more, stops_later}
+use Rattle.cbsrun_runs.proofs.MadeSteps.{completes_more}
+use Rattle.cbsrun_runs.proofs.TaskSteps.{none_seen, on_err_always, seen_both, stops_later}
 use Rattle.cbsrun_runs.proofs.task_steps.show_steps.Goals as goal
 
 pub loop-step-init : goal.loop-step-init
@@ -28,11 +29,11 @@ loop-step-preserved g c = record {
   ready = c.in_ok-show_step.ensures.ready;
   state = λ M agrees. rw (after-push of_files M c.loop-step.yielded c.in-Some.step)
       (c.in_ok-show_step.ensures.state (M ⊕⊕ c.loop-step.yielded) (c.loop-step.invariant.state M agrees));
-  seen = λ M agrees first seen saw. rw (seen_more M c.loop-step.yielded c.in-Some.step seen)
+  seen = λ M agrees first seen saw. rw (seen_both M c.loop-step.yielded (c.in-Some.step ∷ []) seen)
       (c.in_ok-show_step.ensures.seen (M ⊕⊕ c.loop-step.yielded) (c.loop-step.invariant.state M agrees) first _
       (c.loop-step.invariant.seen M agrees first seen saw));
   completes = λ M agrees s.
-      steps_complete of_files M c.loop-step.yielded c.in-Some.step s (c.loop-step.invariant.completes M agrees s)
+      completes_more M c.loop-step.yielded c.in-Some.step s (c.loop-step.invariant.completes M agrees s)
       (c.in_ok-show_step.ensures.completes (M ⊕⊕ c.loop-step.yielded) (c.loop-step.invariant.state M agrees) s);
 }
 
