@@ -5,7 +5,7 @@ use Rattle.cbs_job.specs.Work.{Meaning}
 use Rattle.cbs_rate.specs.Refusals.{RefusesByOrMemory}
 use Rattle.cbs_steps.specs.Faces.{submit_refusal}
 use Rattle.cbs_steps.specs.History.{History, Setup, ◌⊕◌, faces, reply_in, world_after}
-use Rattle.cbs_steps.specs.Laws.{account_in, completion_in, completion_of, completions_of, Completes}
+use Rattle.cbs_steps.specs.Laws.{account_in, completions_of, Completes}
 use Rattle.cbs_steps.specs.OnTime.{KeepsTime, KeepsTimeAll}
 use Rattle.cbs_steps.specs.Paced.{KeepsPace, KeepsPaceAll}
 use Rattle.cbs_steps.specs.Punctual.{IsPunctual}
@@ -52,12 +52,7 @@ module _ {W : Type 0} where
     pub count : length new.faces ≡ length old.faces
     pub budgets : KeepsBudgets new
 
-  -- what the reply to the step x means for each server: its completions go on by that of the reply
-  abbrev pub CompletesStep : Meaning W → CoreHeld W → Step W → Reply W → Type 0
-  CompletesStep work old x r = (M : History W) → Agrees work old M → (s : ℕ)
-      → Completes work (account_in work M s) (account_in work (M ⊕ x) s) (completion_of s (completion_in r))
-
-  -- the same of a list of steps
+  -- what the replies to the steps mean for each server: its completions go on by those of the replies
   abbrev pub CompletesSteps : Meaning W → CoreHeld W → List (Step W) → List (Reply W) → Type 0
   CompletesSteps work old xs rs = (M : History W) → Agrees work old M → (s : ℕ)
       → Completes work (account_in work M s) (account_in work (grown_by M xs rs) s) (completions_of s rs)

@@ -15,7 +15,7 @@ ghost use Rattle.cbs_steps.specs.Promises.{promised, AllFinishedBy};
 ghost use Rattle.cbs_steps.specs.Punctual.{IsPunctual};
 ghost use Rattle.cbs_steps.specs.Setups.{terms_of, new_refusal};
 ghost use Rattle.cbs_core.specs.Agreement.{Agrees, TellsOf};
-ghost use Rattle.cbs_core.specs.Calls.{AllPunctual, CompletesStep, CompletesSteps, IsBefore, Makes, RefusesAsSubmit, Tries, TriesAll};
+ghost use Rattle.cbs_core.specs.Calls.{AllPunctual, CompletesSteps, IsBefore, Makes, RefusesAsSubmit, Tries, TriesAll};
 ghost use Rattle.cbs_core.specs.Held.{room_of, KeepsRoom, IsOpen, HasRoom, IsRefusedBy, IsCoreOnTime, IsCorePaced, front_output, held_at, TakesJob, ClosesServer, OthersSame, AllSame, DoesRun, CountsOn, running, is_running};
 ghost use Rattle.cbs_rate.specs.Limits.{longest_period, most_servers};
 
@@ -512,14 +512,6 @@ impl<W: Work, A: Allocator> Core<W, A> {
 
     /// Makes one step, and returns the reply of [`submit`](Core::submit), [`run`](Core::run),
     /// [`advance`](Core::advance), [`close`](Core::close) or [`charge`](Core::charge).
-    pub fn step(&mut self, step: Step<W>) -> Reply<W>
-        ensures tries { Tries W.meaning self.old self.new step result }
-        ensures completes { is_lack result ≡ false → CompletesStep W.meaning self.old step result }
-    {
-        self.make(step)
-    }
-
-    /// Makes one step, and returns its reply.
     fn make(&mut self, step: Step<W>) -> Reply<W>
         ensures tries { Tries W.meaning self.old self.new step result }
         ensures counts { CountsOn (completion_in result) self.old self.new }
