@@ -12,11 +12,11 @@ use Rattle.cbs_steps.specs.Promises.{promised}
 use Rattle.cbs_steps.specs.declared.reply.Ran.{Ran}
 use Rattle.cbs_steps.specs.declared.reply.Reply.TheVariants as reply
 use Rattle.cbs_steps.specs.declared.step.Step.TheVariants as step
-use Rattle.cbsrun_simulate.specs.Moves.{Move, submit, run, charge, idle_span, move_on, ran_in, owing_for, Simulation, next_of, coming_after}
+use Rattle.cbsrun_simulate.specs.Moves.{Move, submit, run, charge, idle_span, move_on, ran_in, owing_for, Simulation, next_of, coming_after, owing_after, after_move}
 use Rattle.cbsrun_simulate.specs.Shown.{arrival_of, seen_of}
 use Rattle.cbsrun_events.specs.Steps.{seen_at}
 use Rattle.cbsrun_events.specs.declared.seen.Seen.{Seen}
-use Rattle.cbsrun_simulate.specs.Simulating.{DoesMove, Stops, MakesMove, MakesNext, move_to, owing_told, stop_at}
+use Rattle.cbsrun_simulate.specs.Simulating.{DoesMove, Stops, MakesMove, owing_told, stop_at}
 use Rattle.cbsrun_simulate.specs.declared.charge.Charge.{Charge}
 use Rattle.cbsrun_events.specs.declared.seen.Event.{Event}
 use Rattle.cbsrun_events.specs.declared.seen.Event.TheVariants as event
@@ -39,6 +39,19 @@ on_ok_with (Ok x) f p = f p
 on_ok_with (Err e) f p = tt
 
 module _ {W : Type 0} (work : Meaning W) (job : Release → W) where
+  -- the move of a simulation up to the tick `stop`, if no release has come
+  abbrev pub move_to : ℕ → Simulation W → Move
+  move_to stop sim = let w = world_after work sim.history in move_on w.now stop (idle_span w.now (faces work w))
+
+  -- a core made the next move of the simulation. After it these releases are to come, and this charge is owed
+  pub record MakesNext {S : Type 0} (until : ℕ) (saw : S → S → List Seen → Type 0) (sim : Simulation W) (new : CoreHeld W) (coming : List Release)
+      (owing : Option Charge) (w v : S) : Type 0 where
+    pub move : Move
+    pub next : next_of work job until sim ≡ Some move
+    pub makes : MakesMove work job saw sim move new w v
+    pub rest : coming ≡ (after_move work job sim move).coming
+    pub owed : owing ≡ owing_after work job sim move
+
   -- a run, with its result
   pub runs : (constant : (j : W) → whole work j ≡ work.output j) (sim : Simulation W) (old new : CoreHeld W) (r : Ran) (o : Option Charge)
       → Agrees work old sim.history → reply.Ran r ≡ reply_in work sim.history step.Run → Agrees work new (sim.history ⊕ step.Run) → DoesRun work r old new
@@ -61,21 +74,28 @@ module _ {W : Type 0} (work : Meaning W) (job : Release → W) where
       record { event = rw (← answer) (ap (event.Accepted (arrival_of r) q) (told _ state)); state = state; owed = refl }
 
   -- what a view is shown of a move that it made
-  seen_is : (sim : Simulation W) (m : Move) (new : CoreHeld W) (e : Event) (o : Option Charge) → DoesMove work job sim m new e o
-      → seen_at new.clock new.faces e ≡ seen_of work job sim m
-  seen_is sim m new e o moves =
+  seen_is : (sim : Simulation W) (m : Move) (new : CoreHeld W) (e : Event) (o : Option Charge) (s : Seen) → DoesMove work job sim m new e o
+      → s ≡ seen_at new.clock new.faces e → s ≡ seen_of work job sim m
+  seen_is sim m new e o s moves is =
       let at = moves.state.world.clock in
       let faces = moves.state.world.shown in
-      rw (at, faces, moves.event) refl
+      is ∙ rw (at, faces, moves.event) refl
 
   -- a move that a core made, and that a view saw
-  pub sees : {S : Type 0} (saw : S → S → List Seen → Type 0) (sim : Simulation W) (m : Move) (new : CoreHeld W) (e : Event) (o : Option Charge) (w v : S)
-      → DoesMove work job sim m new e o
-      → ((first : S) (seen : List Seen) → saw first w seen → saw first v
-      (seen_at new.clock new.faces e ∷ seen))
-      → MakesMove work job saw sim m new o w v
-  sees saw sim m new e o w v moves sight =
-      record { state = moves.state; owed = moves.owed; seen = λ first seen was. rw (seen_is sim m new e o moves) at (sight first seen was) }
+  pub sees : {S : Type 0} (saw : S → S → List Seen → Type 0) (sim : Simulation W) (m : Move) (new : CoreHeld W) (e : Event) (o : Option Charge) (s : Seen)
+      (w v : S) → DoesMove work job sim m new e o → s ≡ seen_at new.clock new.faces e
+      → ((first : S) (seen : List Seen) → saw first w seen → saw first v (s ∷ seen)) → MakesMove work job saw sim m new w v
+  sees saw sim m new e o s w v moves is sight =
+      record { state = moves.state; seen = λ first seen was. rw (seen_is sim m new e o s moves is) at (sight first seen was) }
+
+  -- what a core shows tells which move goes on
+  pub goes_at : (sim : Simulation W) (core : CoreHeld W) (stop : ℕ) (o : Option ℕ) → Agrees work core sim.history
+      → o ≡ idle_span (world_after work sim.history).now (faces work (world_after work sim.history))
+      → move_on core.clock stop o ≡ move_on core.clock stop (idle_span core.clock core.faces)
+  goes_at sim core stop o agrees is =
+      let at = agrees.world.clock in
+      let shown = agrees.world.shown in
+      ap (move_on core.clock stop) (is ∙ rw (at, shown) refl)
 
   -- a core that did nothing stopped before any move, and one that made the next move stopped after it
   pub stops_first : {S : Type 0} (saw failed : S → S → List Seen → Type 0) (until : ℕ) (sim : Simulation W) (new : CoreHeld W) (w : S)
@@ -83,17 +103,14 @@ module _ {W : Type 0} (work : Meaning W) (job : Release → W) where
   stops_first saw failed until sim new w state = record { moves = []; each = tt; state = state; seen = λ first seen was. inl was }
 
   pub stops_after : {S : Type 0} (saw failed : S → S → List Seen → Type 0) (until : ℕ) (sim : Simulation W) (m : Move) (new : CoreHeld W) (e : Event)
-      (o : Option Charge) (w v : S) → next_of work job until sim ≡ Some m → DoesMove work job sim m new e o
-      → ((first : S) (seen : List Seen) → saw first w seen → failed first v
-      (seen_at new.clock new.faces e ∷ seen))
-      → Stops work job until saw failed sim new w v
-  stops_after saw failed until sim m new e o w v next moves fails =
+      (o : Option Charge) (s : Seen) (w v : S) → next_of work job until sim ≡ Some m → DoesMove work job sim m new e o → s ≡ seen_at new.clock new.faces e
+      → ((first : S) (seen : List Seen) → saw first w seen → failed first v (s ∷ seen)) → Stops work job until saw failed sim new w v
+  stops_after saw failed until sim m new e o s w v next moves is fails =
       record {
         moves = m ∷ [];
         each = (next, tt);
         state = moves.state;
-        seen =
-            λ first seen was. inr (rw (seen_is sim m new e o moves) at (fails first seen was));
+        seen = λ first seen was. inr (rw (seen_is sim m new e o s moves is) at (fails first seen was));
       }
 
   -- a core that agrees differs from this one only in its room for jobs
@@ -109,23 +126,18 @@ module _ {W : Type 0} (work : Meaning W) (job : Release → W) where
     };
   })
 
-  -- a move before the next release does not change the releases to come
-  same_coming : (now stop : ℕ) (o : Option ℕ) (coming : List Release) → coming ≡ coming_after (move_on now stop o) coming
-  same_coming now stop None coming = refl
-  same_coming now stop (Some span) coming = refl
-
   module _ (until : ℕ) (M : History W) where
     -- if no release is left, the next move is the one up to `until`
     pub none_left : (coming : List Release) → slice_get coming 0 ≡ None → (world_after work M).now < until
         → next_of work job until (record { history = M; coming = coming; owing = None }) ≡ Some
-        (move_to work job until (record { history = M; coming = coming; owing = None }))
+        (move_to until (record { history = M; coming = coming; owing = None }))
     none_left [] e early = let f : leb until (world_after work M).now ≡ false = grind (arith, nat_tests) in rw f refl
     none_left (r ∷ rs) e early = cc
 
     -- if no release has come, the next move is the one up to the first of them, or to `until`
     pub none_come : (coming : List Release) (r : Release) → slice_get coming 0 ≡ Some r → (world_after work M).now < until → (world_after work M).now < r.tick
         → next_of work job until (record { history = M; coming = coming; owing = None }) ≡ Some
-        (move_to work job (min r.tick until) (record { history = M; coming = coming; owing = None }))
+        (move_to (min r.tick until) (record { history = M; coming = coming; owing = None }))
     none_come [] r e early later = cc
     none_come (q ∷ rs) r e early later =
         let f : leb until (world_after work M).now ≡ false = grind (arith, nat_tests) in
@@ -142,18 +154,6 @@ module _ {W : Type 0} (work : Meaning W) (job : Release → W) where
         let same : q ≡ r = cc in
         let t : leb r.tick (world_after work M).now ≡ true = grind (arith, nat_tests) in
         rw (f, same, t) refl
-
-    -- a core that made a move up to `stop` made the next move, if that is the next move
-    pub makes_next : {S : Type 0} (saw : S → S → List Seen → Type 0) (stop : ℕ) (coming : List Release) (new : CoreHeld W) (o : Option Charge) (w v : S)
-        → (let sim : Simulation W = record { history = M; coming = coming; owing = None } in
-        next_of work job until sim ≡ Some (move_to work job stop sim) → MakesMove work job saw sim (move_to work job stop sim) new o w v
-        → MakesNext work job until saw sim new coming o w v)
-    makes_next saw stop coming new o w v next makes = record {
-      move = move_to work job stop (record { history = M; coming = coming; owing = None });
-      next = next;
-      makes = makes;
-      rest = same_coming (world_after work M).now stop (idle_span (world_after work M).now (faces work (world_after work M))) coming;
-    }
 
     -- when the clock is at `until`, a release before `until` is submitted
     pub one_late : (coming : List Release) (o : Option Charge) (r : Release) → slice_get coming 0 ≡ Some r → until ≤ (world_after work M).now → r.tick < until
@@ -179,7 +179,7 @@ module _ {W : Type 0} (work : Meaning W) (job : Release → W) where
     -- up to the tick of the next release, the next move is the one up to that tick
     pub before_stop : (coming : List Release) → (world_after work M).now < stop_at until coming
         → (let sim : Simulation W = record { history = M; coming = coming; owing = None } in
-        next_of work job until sim ≡ Some (move_to work job (stop_at until coming) sim))
+        next_of work job until sim ≡ Some (move_to (stop_at until coming) sim))
     before_stop [] lt = none_left [] refl lt
     before_stop (r ∷ rs) lt = none_come (r ∷ rs) r refl (omega arith) (omega arith)
 
@@ -209,16 +209,3 @@ module _ {W : Type 0} (work : Meaning W) (job : Release → W) where
         → next_of work job until (record { history = M; coming = coming; owing = Some c })
         ≡ Some (charge c.server (min c.ticks (until - (world_after work M).now)))
     charge_next coming c early = let f : leb until (world_after work M).now ≡ false = grind (arith, nat_tests) in rw f refl
-
-    -- a core that made this charge made the next move
-    pub makes_charge : {S : Type 0} (saw : S → S → List Seen → Type 0) (coming : List Release) (c : Charge) (new : CoreHeld W) (w v : S)
-        → (world_after work M).now < until
-        → (let sim : Simulation W = record { history = M; coming = coming; owing = Some c } in
-        MakesMove work job saw sim (charge c.server (min c.ticks (until - (world_after work M).now))) new None w v
-        → MakesNext work job until saw sim new coming None w v)
-    makes_charge saw coming c new w v early makes = record {
-      move = charge c.server (min c.ticks (until - (world_after work M).now));
-      next = charge_next coming c early;
-      makes = makes;
-      rest = refl;
-    }

@@ -3,6 +3,7 @@ pub mod Apart
 pub mod Bounded
 pub mod Clocks
 pub mod Draws
+pub mod Driven
 pub mod Goes
 pub mod Loads
 pub mod Loop

@@ -11,13 +11,24 @@ use Rattle.cbsrun_simulate.specs.Moves.{Move, Simulation, next_of, after_move, a
 use Rattle.cbsrun_simulate.specs.Releases.{IsInOrder}
 use Rattle.cbsrun_simulate.specs.Shown.{seen_of, shown}
 use Rattle.cbsrun_events.specs.declared.seen.Seen.{Seen}
-use Rattle.cbsrun_simulate.specs.Simulating.{MakesNext, MakesSome, Stops, Ended, Simulates}
+use Rattle.cbsrun_simulate.specs.Simulating.{Stops, Simulates}
+use Rattle.cbsrun_simulate.proofs.Goes.{MakesNext}
 use Rattle.cbsrun_simulate.specs.declared.charge.Charge.{Charge}
 use Rattle.cbsrun_simulate.specs.declared.release.Release.{Release}
 use Rattle.cbsrun_simulate.proofs.MoveSteps.{IsGoing}
 use Rattle.cbsrun_simulate.proofs.Simulations.{goes, well_next, all_submits, all_end, moves_are, are_moves}
 
 module _ {W : Type 0} (work : Meaning W) (job : Release → W) where
+  -- a core made some moves of the simulation, each the next one where it stands
+  pub record MakesSome {S : Type 0} (until : ℕ) (saw : S → S → List Seen → Type 0) (sim : Simulation W) (new : CoreHeld W) (coming : List Release)
+      (owing : Option Charge) (w v : S) : Type 0 where
+    pub moves : List Move
+    pub each : AreNext work job until sim moves
+    pub state : Agrees work new (after_moves work job sim moves).history
+    pub seen : (first : S) (seen : List Seen) → saw first w seen → saw first v (shown work job sim moves seen)
+    pub rest : coming ≡ (after_moves work job sim moves).coming
+    pub owed : owing ≡ (after_moves work job sim moves).owing
+
   -- some moves after others
   after_more : (sim : Simulation W) (ms ns : List Move) → after_moves work job sim (ms ++ ns) ≡ after_moves work job (after_moves work job sim ms) ns
   after_more sim [] ns = refl
@@ -63,13 +74,13 @@ module _ {W : Type 0} (work : Meaning W) (job : Release → W) where
   module _ (until : ℕ) {S : Type 0} (saw : S → S → List Seen → Type 0) where
     -- no move yet
     pub none_made : (sim : Simulation W) (core : CoreHeld W) (w : S) → Agrees work core sim.history
-        → MakesSome work job until saw sim core sim.coming sim.owing w w
+        → MakesSome until saw sim core sim.coming sim.owing w w
     none_made sim core w agrees = record { moves = []; each = tt; state = agrees; seen = λ first seen h. h; rest = refl; owed = refl }
 
     -- one move more
     more_made : (sim last : Simulation W) (mid new : CoreHeld W) (now then : List Release) (o p : Option Charge) (w u v : S)
-        (h : MakesSome work job until saw sim mid now o w u) → last ≡ after_moves work job sim h.moves
-        → MakesNext work job until saw last new then p u v → MakesSome work job until saw sim new then p w v
+        (h : MakesSome until saw sim mid now o w u) → last ≡ after_moves work job sim h.moves
+        → MakesNext work job until saw last new then p u v → MakesSome until saw sim new then p w v
     more_made sim last mid new now then o p w u v h is k =
         let m = k.move in
         let e = after_more sim h.moves (m ∷ []) in
@@ -82,13 +93,13 @@ module _ {W : Type 0} (work : Meaning W) (job : Release → W) where
               (subst (λ (x : Simulation W). saw first v (seen_of work job x m ∷ shown work job sim h.moves seen)) is
               (k.makes.seen first (shown work job sim h.moves seen) (h.seen first seen was)));
           rest = rw e (rw is at k.rest);
-          owed = rw e (rw is at k.makes.owed);
+          owed = rw e (rw is at k.owed);
         }
 
     module _ (ends : until ≤ clock_end) (first mid new : CoreHeld W) (coming now : List Release) (o : Option Charge) (w u : S)
         (early : first.clock ≤ until) (order : IsInOrder first.clock coming)
         (made : (M : History W) → Agrees work first M
-        → MakesSome work job until saw (record { history = M; coming = coming; owing = None }) mid now o w u) where
+        → MakesSome until saw (record { history = M; coming = coming; owing = None }) mid now o w u) where
       -- the simulation of a history, and what is left of it
       abbrev sim_from : History W → Simulation W
       sim_from M = record { history = M; coming = coming; owing = None }
@@ -117,59 +128,58 @@ module _ {W : Type 0} (work : Meaning W) (job : Release → W) where
             seen = λ first seen was. rw (shown_on (sim_from M) h.moves k.moves seen) (k.seen first _ (h.seen first seen was));
           }
 
-      module _ (then : List Release) (p : Option Charge) (v : S) where
-        module _ (next : (M : History W) → Agrees work mid M
-            → MakesNext work job until saw (record { history = M; coming = now; owing = o }) new then p u v) where
-          -- one move makes less what is left
-          less : (M : History W) → Agrees work first M → (until - new.clock) + length then < (until - mid.clock) + length now
-          less M agrees =
-              let h = made M agrees in
-              let k = next (last_of M agrees).history h.state in
-              let laws = goes work job until ends first.clock (sim_from M) h.moves (going_first M agrees) h.each in
-              let going : IsGoing work job until ends laws.last (record { history = (last_of M agrees).history; coming = now; owing = o }) =
-              rw (at_last M agrees) laws.going in
-              let well = well_next work job until ends laws.last (record { history = (last_of M agrees).history; coming = now; owing = o })
-              k.move going k.next in
-              let fewer = well.fewer in
-              let a = h.state.world.clock in
-              let b = k.makes.state.world.clock in
-              let c = k.rest in
-              rw (a, b, c) fewer
-              -- the same, whatever the history is
-
-          pub smaller : HasHistory work first → (until - new.clock) + length then < (until - mid.clock) + length now
-          smaller has = elim (cases_lt ((until - new.clock) + length then) ((until - mid.clock) + length now)) [
-            | inl lt ↦ lt
-            | inr ge ↦ absurd (has (λ M agrees. let lt = less M agrees in absurd (omega arith)))
-          ]
-
-          -- the moves are made, with the next one
-          pub preserved : (M : History W) → Agrees work first M
-              → MakesSome work job until saw (record { history = M; coming = coming; owing = None }) new then p w v
-          preserved M agrees =
-              let h = made M agrees in
-              more_made (sim_from M) (record { history = (last_of M agrees).history; coming = now; owing = o }) mid new now then o p w u v h (at_last M agrees)
-              (next (last_of M agrees).history h.state)
-
-        -- if there is no next move, all moves are made
-        pub all_made : ((M : History W) → Agrees work mid M → Ended work job until (record { history = M; coming = now; owing = o }) mid new then p u v)
-            → (M : History W) → Agrees work first M → Simulates work job until saw (record { history = M; coming = coming; owing = None }) new w v
-        all_made ended M agrees =
+      module _ (then : List Release) (p : Option Charge) (v : S)
+          (next : (M : History W) → Agrees work mid M
+          → MakesNext work job until saw (record { history = M; coming = now; owing = o }) new then p u v) where
+        -- one move makes less what is left
+        less : (M : History W) → Agrees work first M → (until - new.clock) + length then < (until - mid.clock) + length now
+        less M agrees =
             let h = made M agrees in
-            let k = ended (last_of M agrees).history h.state in
-            let none : next_of work job until (last_of M agrees) ≡ None = rw (sym (at_last M agrees)) k.none in
-            let all : AreMoves work job until (sim_from M) h.moves = record { each = h.each; ended = none } in
-            let going = going_first M agrees in
-            let same = are_moves work job until ends first.clock (sim_from M) h.moves going all in
-            let laws = goes work job until ends first.clock (sim_from M) h.moves going h.each in
-            record {
-              state = rw (k.core, sym same) h.state;
-              all = moves_are work job until ends first.clock (sim_from M) going;
-              only = λ ns every. are_moves work job until ends first.clock (sim_from M) ns going every;
-              seen = λ first seen was. rw (k.view, sym same) (h.seen first seen was);
-              submits = rw (sym same) (all_submits work job until ends first.clock (sim_from M) h.moves going all);
-              on_tick = rw (sym same, sym agrees.world.clock) laws.on_tick;
-              charges = rw (sym same) laws.charges;
-              quiet = rw (sym same) laws.quiet;
-              clock = ap (λ c. c.clock) k.core ∙ h.state.world.clock ∙ all_end work job until ends first.clock (sim_from M) h.moves going all;
-            }
+            let k = next (last_of M agrees).history h.state in
+            let laws = goes work job until ends first.clock (sim_from M) h.moves (going_first M agrees) h.each in
+            let going : IsGoing work job until ends laws.last (record { history = (last_of M agrees).history; coming = now; owing = o }) =
+            rw (at_last M agrees) laws.going in
+            let well = well_next work job until ends laws.last (record { history = (last_of M agrees).history; coming = now; owing = o })
+            k.move going k.next in
+            let fewer = well.fewer in
+            let a = h.state.world.clock in
+            let b = k.makes.state.world.clock in
+            let c = k.rest in
+            rw (a, b, c) fewer
+
+        -- the same, whatever the history is
+        pub smaller : HasHistory work first → (until - new.clock) + length then < (until - mid.clock) + length now
+        smaller has = elim (cases_lt ((until - new.clock) + length then) ((until - mid.clock) + length now)) [
+          | inl lt ↦ lt
+          | inr ge ↦ absurd (has (λ M agrees. let lt = less M agrees in absurd (omega arith)))
+        ]
+
+        -- the moves are made, with the next one
+        pub preserved : (M : History W) → Agrees work first M
+            → MakesSome until saw (record { history = M; coming = coming; owing = None }) new then p w v
+        preserved M agrees =
+            let h = made M agrees in
+            more_made (sim_from M) (record { history = (last_of M agrees).history; coming = now; owing = o }) mid new now then o p w u v h (at_last M agrees)
+            (next (last_of M agrees).history h.state)
+
+      -- if there is no next move, all moves are made
+      pub all_made : ((M : History W) → Agrees work mid M → next_of work job until (record { history = M; coming = now; owing = o }) ≡ None)
+          → (M : History W) → Agrees work first M → Simulates work job until saw (record { history = M; coming = coming; owing = None }) mid w u
+      all_made ended M agrees =
+          let h = made M agrees in
+          let none : next_of work job until (last_of M agrees) ≡ None = rw (sym (at_last M agrees)) (ended (last_of M agrees).history h.state) in
+          let all : AreMoves work job until (sim_from M) h.moves = record { each = h.each; ended = none } in
+          let going = going_first M agrees in
+          let same = are_moves work job until ends first.clock (sim_from M) h.moves going all in
+          let laws = goes work job until ends first.clock (sim_from M) h.moves going h.each in
+          record {
+            state = rw (sym same) h.state;
+            all = moves_are work job until ends first.clock (sim_from M) going;
+            only = λ ns every. are_moves work job until ends first.clock (sim_from M) ns going every;
+            seen = λ first seen was. rw (sym same) (h.seen first seen was);
+            submits = rw (sym same) (all_submits work job until ends first.clock (sim_from M) h.moves going all);
+            on_tick = rw (sym same, sym agrees.world.clock) laws.on_tick;
+            charges = rw (sym same) laws.charges;
+            quiet = rw (sym same) laws.quiet;
+            clock = h.state.world.clock ∙ all_end work job until ends first.clock (sim_from M) h.moves going all;
+          }

@@ -1,6 +1,6 @@
-pub mod Beginning
 pub mod Bounds
 pub mod Drawing
+pub mod Driving
 pub mod Loading
 pub mod Merging
 pub mod MoveLaws

@@ -5,14 +5,14 @@ use Rattle.std.specs.Option.{option_and_then}
 use Rattle.cbs_job.specs.Work.{Meaning}
 use Rattle.cbs_core.specs.Agreement.{Agrees}
 use Rattle.cbs_core.specs.Held.{CoreHeld, front_output, held_at}
-use Rattle.cbs_steps.specs.History.{◌⊕◌, faces, world_after, reply_in}
+use Rattle.cbs_steps.specs.History.{◌⊕◌, world_after, reply_in}
 use Rattle.cbs_steps.specs.Punctual.{IsPunctual}
 use Rattle.cbs_steps.specs.Quiet.{AreQuiet, AdvanceQuietly}
 use Rattle.cbs_steps.specs.declared.reply.Ran.{Ran}
 use Rattle.cbs_steps.specs.declared.reply.Ran.TheVariants as ran
 use Rattle.cbsrun_events.specs.declared.seen.Event.{Event}
 use Rattle.cbsrun_events.specs.declared.seen.Seen.{Seen}
-use Rattle.cbsrun_simulate.specs.Moves.{Move, move_on, idle_span, owing_of, step_of, Simulation, clock_of, next_of, owing_after, after_move}
+use Rattle.cbsrun_simulate.specs.Moves.{Move, owing_of, step_of, Simulation, clock_of, next_of, owing_after, after_move}
 use Rattle.cbsrun_simulate.specs.Moves.{after_moves, AreNext, AreMoves, moves_of, submitted}
 use Rattle.cbsrun_simulate.specs.MoveLaws.{AllMoves, MovesQuietly, ChargesOwed, EachOnTick, IsOnTick}
 use Rattle.cbsrun_simulate.specs.Releases.{before}
@@ -38,34 +38,10 @@ module _ {W : Type 0} (work : Meaning W) (job : Release → W) where
     pub state : Agrees work new (sim.history ⊕ step_of work job m)
     pub owed : owing ≡ owing_after work job sim m
 
-  -- the move of a simulation up to the tick `stop`, if no release has come
-  abbrev pub move_to : ℕ → Simulation W → Move
-  move_to stop sim = let w = world_after work sim.history in move_on w.now stop (idle_span w.now (faces work w))
-
-  -- a core made this move of the simulation, a view saw it, and this charge is then owed
-  pub record MakesMove {S : Type 0} (saw : S → S → List Seen → Type 0) (sim : Simulation W) (m : Move) (new : CoreHeld W) (owing : Option Charge)
-      (w v : S) : Type 0 where
+  -- a core made this move of the simulation, and a view saw it
+  pub record MakesMove {S : Type 0} (saw : S → S → List Seen → Type 0) (sim : Simulation W) (m : Move) (new : CoreHeld W) (w v : S) : Type 0 where
     pub state : Agrees work new (after_move work job sim m).history
-    pub owed : owing ≡ owing_after work job sim m
     pub seen : (first : S) (seen : List Seen) → saw first w seen → saw first v (seen_of work job sim m ∷ seen)
-
-  -- a core made the next move of the simulation. After it these releases are to come, and this charge is owed
-  pub record MakesNext {S : Type 0} (until : ℕ) (saw : S → S → List Seen → Type 0) (sim : Simulation W) (new : CoreHeld W) (coming : List Release)
-      (owing : Option Charge) (w v : S) : Type 0 where
-    pub move : Move
-    pub next : next_of work job until sim ≡ Some move
-    pub makes : MakesMove saw sim move new owing w v
-    pub rest : coming ≡ (after_move work job sim move).coming
-
-  -- a core made some moves of the simulation, each the next one where it stands
-  pub record MakesSome {S : Type 0} (until : ℕ) (saw : S → S → List Seen → Type 0) (sim : Simulation W) (new : CoreHeld W) (coming : List Release)
-      (owing : Option Charge) (w v : S) : Type 0 where
-    pub moves : List Move
-    pub each : AreNext work job until sim moves
-    pub state : Agrees work new (after_moves work job sim moves).history
-    pub seen : (first : S) (seen : List Seen) → saw first w seen → saw first v (shown work job sim moves seen)
-    pub rest : coming ≡ (after_moves work job sim moves).coming
-    pub owed : owing ≡ (after_moves work job sim moves).owing
 
   -- a view that had seen some steps then saw what the moves show, or failed to see the last of them
   abbrev pub SawOrFailed : {S : Type 0} → (S → S → List Seen → Type 0) → (S → S → List Seen → Type 0) → Simulation W → List Move → S → S → Type 0
@@ -90,14 +66,6 @@ module _ {W : Type 0} (work : Meaning W) (job : Release → W) where
     pub left : List Move
     pub all : done ++ left ≡ moves_of work job until sim
     pub seen : SawOrFailed saw failed sim done w v
-
-  -- there is no next move, and nothing changed
-  pub record Ended {S : Type 0} (until : ℕ) (sim : Simulation W) (old new : CoreHeld W) (coming : List Release) (owing : Option Charge) (w v : S) : Type 0 where
-    pub none : next_of work job until sim ≡ None
-    pub core : new ≡ old
-    pub rest : coming ≡ sim.coming
-    pub owed : owing ≡ sim.owing
-    pub view : v ≡ w
 
   -- A core simulated a load. Its steps are the moves of the definition, all of them and no others, and the view saw
   -- what they show. Each release before `until` was submitted once, in order. It was submitted at its tick, or as soon

@@ -3,7 +3,7 @@
 ghost use Rattle.std.specs.Prelude.{◌≡◌, ◌≤◌, length, IfOk, OnErr};
 ghost use Rattle.cbs_rate.specs.Refusals.{RefusesByOrMemory};
 ghost use Rattle.cbs_steps.specs.Setups.{new_refusal};
-ghost use Rattle.cbsrun_simulate.specs.Beginning.{alone, SimulatesLoad};
+ghost use Rattle.cbsrun_simulate.specs.Driving.{alone, SimulatesLoad};
 ghost use Rattle.cbsrun_simulate.specs.Loading.{loading, job_of};
 ghost use Rattle.cbsrun_simulate.specs.Simulating.{SeesSome};
 

@@ -1,12 +1,12 @@
 //! The kinds of moves, as a core makes them.
 
-ghost use Rattle.std.specs.Prelude.{◌≡◌, ◌≤◌, IfOk, OnErr, None};
+ghost use Rattle.std.specs.Prelude.{◌≡◌, IfOk, OnErr, None};
 ghost use Rattle.cbs_core.specs.Agreement.{Agrees, TellsOf};
 ghost use Rattle.cbs_steps.specs.History.{History, faces};
 ghost use Rattle.cbsrun_simulate.specs.Loading.{loading, job_of};
 ghost use Rattle.cbsrun_simulate.specs.Moves.{submit, run, pass, charge, idle_span, Simulation};
 ghost use Rattle.cbsrun_simulate.specs.Releases.{MakesJob};
-ghost use Rattle.cbsrun_simulate.specs.Simulating.{DoesMove, move_to, owing_told};
+ghost use Rattle.cbsrun_simulate.specs.Simulating.{DoesMove, owing_told};
 
 use crate::charge::Charge;
 use crate::load_job::LoadJob;
@@ -93,27 +93,10 @@ pub(crate) fn charge<A: Allocator>(core: &mut Core<LoadJob, A>, server: u16, tic
     Event::Charged { server, ticks }
 }
 
-/// Runs a unit if a server is ready; else lets ticks pass, at most up to the tick `stop`. Returns the event, and the
-/// charge that is then owed, if one is.
-#[inline(always)]
-pub(crate) fn go_on<A: Allocator>(core: &mut Core<LoadJob, A>, stop: u64) -> (Event, Option<Charge>)
-    requires { core.old.clock ≤ stop }
-    ensures { (sim : Simulation LoadJob) → Agrees loading core.old sim.history
-        → DoesMove loading job_of sim (move_to loading job_of stop sim) core.new result.0 result.1 }
-{
-    match span_if_idle(core) {
-        None => run(core),
-        Some(span) => {
-            let left = stop - core.now();
-            (pass(core, span.min(left)), None)
-        }
-    }
-}
-
 /// Returns for how many ticks no server will be ready, or `None` if one is ready now. It first tests whether a server
 /// is ready, since that takes less time than the search for a span.
 #[inline(always)]
-fn span_if_idle<A: Allocator>(core: &Core<LoadJob, A>) -> Option<u64>
+pub(crate) fn span_if_idle<A: Allocator>(core: &Core<LoadJob, A>) -> Option<u64>
     ensures { TellsOf loading core.now (λ w. result ≡ idle_span w.now (faces loading w)) }
 {
     match core.ready() {
