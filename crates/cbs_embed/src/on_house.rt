@@ -7,9 +7,9 @@ ghost use Rattle.cbs_embed.specs.Calls.{Drops, Runs, Turns, HasServer, Polls, Ad
 ghost use Rattle.cbs_embed.specs.Jobs.{counting};
 ghost use Rattle.cbs_embed.specs.declared.refusal.Refusal.TheVariants as refused;
 
-use crate::calls::{Ticked, Turned};
 use crate::job::UnitJob;
 use crate::refusal::Refusal;
+use crate::told::{Turn, Unit};
 use cbs_core::{Charges, Ran, ServerView};
 use cbs_house::{House, HouseError, Poll};
 
@@ -35,24 +35,24 @@ fn forget(house: &mut House<UnitJob>, ran: Ran)
 }
 
 /// Runs one unit.
-pub(crate) fn run(house: &mut House<UnitJob>) -> Result<Ticked, Refusal>
+pub(crate) fn run(house: &mut House<UnitJob>) -> Result<Unit, Refusal>
     ensures { Runs house.old result house.new }
 {
     let ran = house.run();
     let token = token_of(house, ran);
     forget(house, ran);
-    Ok(Ticked { ran, token })
+    Ok(Unit { ran, token })
 }
 
 /// Takes a turn.
-pub(crate) fn turn(house: &mut House<UnitJob>) -> Result<Turned, Refusal>
+pub(crate) fn turn(house: &mut House<UnitJob>) -> Result<Turn, Refusal>
     ensures { Turns house.old result house.new }
 {
     let turn = house.turn();
     let token = token_of(house, turn.ran);
     forget(house, turn.ran);
     let over = house.is_over();
-    Ok(Turned { turn, token, over })
+    Ok(Turn { turn, token, over })
 }
 
 /// Refuses the number of a server that the house does not have, by [`HouseError::NoSuchServer`].
