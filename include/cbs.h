@@ -35,7 +35,12 @@
 #include <stddef.h>
 #include <stdint.h>
 
+/* cbs_turn and cbs_view name a struct and a call each, so C++ says struct for the first, as C does. g++ -Wshadow would warn. */
 #ifdef __cplusplus
+#ifdef __GNUC__
+#pragma GCC diagnostic push
+#pragma GCC diagnostic ignored "-Wshadow"
+#endif
 extern "C" {
 #endif
 
@@ -107,7 +112,7 @@ struct cbs_unit {
 };
 
 /* What a turn did. */
-struct cbs_turned {
+struct cbs_turn {
     uint64_t took;        /* how many messages it took, ends included: at most one of each server */
     uint64_t advanced;    /* by how many ticks it advanced, with nobody ready; the tick of a unit is not counted */
     struct cbs_unit ran;  /* the unit that is to be done now */
@@ -125,7 +130,7 @@ enum {
 };
 
 /* What a server shows. */
-struct cbs_shown {
+struct cbs_view {
     uint64_t budget;        /* the ticks that it may still use by its deadline */
     uint64_t deadline_low;  /* the deadline has 128 bits: the lower 64 */
     uint64_t deadline_high; /* and the upper, 0 for most programs' whole life */
@@ -219,7 +224,7 @@ size_t cbs_status_text(uint32_t status, char *out, size_t n);
 /* Takes a turn: polls each server once, in their order, and then runs one unit. If nobody is ready and a job is not
  * finished (all who have one wait for their deadline), it advances the clock by the idle span instead; if no job is
  * there, or the clock stands at its end, it leaves the clock alone. No turn takes anybody's time. It tells when all is over. */
-uint32_t cbs_turn(struct cbs_handle *house, struct cbs_turned *out);
+uint32_t cbs_turn(struct cbs_handle *house, struct cbs_turn *out);
 
 /* Takes the next message of one server, if there is one and room for it, and writes what it did to *kind (CBS_POLL_..).
  * A message that is not taken stays in its ring. Refuses by CBS_HOUSE_NO_SUCH_SERVER. */
@@ -252,7 +257,7 @@ uint32_t cbs_now(struct cbs_handle *house, uint64_t *out);
 uint32_t cbs_idle_span(struct cbs_handle *house, uint64_t *out);
 
 /* Writes what a server shows. Refuses by CBS_HOUSE_NO_SUCH_SERVER. */
-uint32_t cbs_view(struct cbs_handle *house, uint16_t server, struct cbs_shown *out);
+uint32_t cbs_view(struct cbs_handle *house, uint16_t server, struct cbs_view *out);
 
 /* Writes the tick by which all that a server has taken is finished, whatever the others ask for: 128 bits. It is kept if no
  * advance took anybody's time, before the call or after it, and nothing was charged. An advance while somebody is ready takes
@@ -282,5 +287,8 @@ uint32_t cbs_waiting(struct cbs_handle *client, uint64_t *out);
 
 #ifdef __cplusplus
 }
+#ifdef __GNUC__
+#pragma GCC diagnostic pop
+#endif
 #endif
 #endif

@@ -178,14 +178,14 @@ static inline uint64_t cbs_realtime_due(const struct cbs_realtime *self, uint64_
 
 /* Counts what is open and held, when the loop begins. */
 static inline uint32_t cbs_realtime_begin(struct cbs_realtime *self, struct cbs_handle *house) {
-    struct cbs_shown shown;
+    struct cbs_view view;
     uint32_t status = cbs_now(house, &self->first);
     self->servers = self->unclosed = 0;
     self->held = 0;
-    while (status == CBS_OK && (status = cbs_view(house, self->servers, &shown)) == CBS_OK) {
+    while (status == CBS_OK && (status = cbs_view(house, self->servers, &view)) == CBS_OK) {
         self->servers++;
-        self->unclosed = (uint16_t)(self->unclosed + !shown.closed);
-        self->held += shown.accepted - shown.finished;
+        self->unclosed = (uint16_t)(self->unclosed + !view.closed);
+        self->held += view.accepted - view.finished;
     }
     cbs_realtime_time(self);
     self->begun = status == CBS_HOUSE_NO_SUCH_SERVER;

@@ -39,7 +39,7 @@ static double nanoseconds(void) {
 
 static void call(struct bench *bench, int which, uint16_t server, uint64_t number) {
     struct cbs_unit unit;
-    struct cbs_turned turn;
+    struct cbs_turn turn;
     uint64_t out;
     uint32_t kind;
     switch (which) {

@@ -119,7 +119,7 @@ static void encode(void *context, const struct cbs_unit *unit) {
 /* Prints what a producer got, and checks that all was done, and paid for. */
 static void report(struct cbs_handle *house, uint16_t server) {
     const struct producer *it = &producers[server];
-    struct cbs_shown view;
+    struct cbs_view view;
     uint64_t now, took = 0, most;
     MUST(cbs_now(house, &now) == CBS_OK && cbs_view(house, server, &view) == CBS_OK && cbs_charges(house, server, &took, &most) == CBS_OK);
     took += it->units;

@@ -106,8 +106,8 @@ static void no_house(struct cbs_handle *handle, uint32_t status) {
     uint64_t number = UNTOUCHED, other = UNTOUCHED;
     uint32_t kind = 99;
     struct cbs_unit unit;
-    struct cbs_turned turn;
-    struct cbs_shown view;
+    struct cbs_turn turn;
+    struct cbs_view view;
     memset(&unit, 0x5a, sizeof unit);
     memset(&turn, 0x5a, sizeof turn);
     memset(&view, 0x5a, sizeof view);
@@ -127,10 +127,10 @@ static void no_house(struct cbs_handle *handle, uint32_t status) {
 static void no_server(struct cbs_handle *house, uint16_t server) {
     uint64_t low = UNTOUCHED, high = UNTOUCHED;
     uint32_t kind = 99;
-    struct cbs_shown shown;
-    memset(&shown, 0x5a, sizeof shown);
+    struct cbs_view view;
+    memset(&view, 0x5a, sizeof view);
     CHECK(cbs_poll(house, server, &kind) == CBS_HOUSE_NO_SUCH_SERVER && kind == 99);
-    CHECK(cbs_view(house, server, &shown) == CBS_HOUSE_NO_SUCH_SERVER && untouched(&shown, sizeof shown));
+    CHECK(cbs_view(house, server, &view) == CBS_HOUSE_NO_SUCH_SERVER && untouched(&view, sizeof view));
     CHECK(cbs_promised(house, server, &low, &high) == CBS_HOUSE_NO_SUCH_SERVER && low == UNTOUCHED && high == UNTOUCHED);
     CHECK(cbs_charge(house, server, 0) == CBS_HOUSE_NO_SUCH_SERVER);
     CHECK(cbs_charges(house, server, &low, &high) == CBS_HOUSE_NO_SUCH_SERVER && low == UNTOUCHED && high == UNTOUCHED);
@@ -249,7 +249,7 @@ static void client_is_gone(void) {
     polls(&setup, 1, CBS_POLL_CLOSED);
     polls(&setup, 2, CBS_POLL_CLOSED);
     for (uint16_t i = 0; i < 3; i++) {
-        struct cbs_shown view;
+        struct cbs_view view;
         polls(&setup, i, CBS_POLL_NOTHING);
         CHECK(cbs_view(&setup.house, i, &view) == CBS_OK && view.accepted == (i == 1) && view.closed);
     }
@@ -291,7 +291,7 @@ static void polling(void) {
     runs(&setup, CBS_RUN_DONE, 0, 1, 12);
     polls(&setup, 0, CBS_POLL_CLOSED);
     polls(&setup, 0, CBS_POLL_NOTHING);
-    struct cbs_shown view;
+    struct cbs_view view;
     CHECK(cbs_view(&setup.house, 0, &view) == CBS_OK);
     CHECK(view.accepted == 2 && view.finished == 2 && view.closed && !view.throttled);
     tear_down(&setup);
@@ -299,7 +299,7 @@ static void polling(void) {
 
 /* Takes a turn that tells of this unit, with something left to do. */
 static void turns(struct cbs_handle *house, uint64_t took, uint64_t advanced, uint32_t kind, uint16_t server, uint64_t seq, uint64_t token) {
-    struct cbs_turned turn;
+    struct cbs_turn turn;
     memset(&turn, 0x5a, sizeof turn);
     CHECK(cbs_turn(house, &turn) == CBS_OK);
     CHECK(turn.took == took && turn.advanced == advanced && !turn.out_of_memory && !turn.over);
@@ -326,7 +326,7 @@ static void promises(struct setup *setup, uint64_t low, uint64_t high) {
 /* Both servers, from the sends to the end, by turns and by runs. */
 static void serving(void) {
     struct setup setup;
-    struct cbs_shown view;
+    struct cbs_view view;
     set_up(&setup, soft_and_throttled, 2, 4, 4);
     promises(&setup, UINT64_MAX, UINT64_MAX);
     send_job(&setup.clients[0], 7, 3, 0);
@@ -493,7 +493,7 @@ static void charging_by_name(void) {
 static void halves(void) {
     struct cbs_server server = {1, 1000000000, CBS_SOFT};
     struct setup setup;
-    struct cbs_shown view;
+    struct cbs_view view;
     set_up(&setup, &server, 1, 4, 4);
     submit(&setup, 0, 11, 1, 0);
     submit(&setup, 0, 12, 1, 1);
@@ -515,7 +515,7 @@ static void halves(void) {
 }
 
 static bool is_over(struct setup *setup) {
-    struct cbs_turned turn;
+    struct cbs_turn turn;
     CHECK(cbs_turn(&setup->house, &turn) == CBS_OK);
     return turn.over;
 }
@@ -573,7 +573,7 @@ static void turning(void) {
 static void clock_ends(void) {
     struct cbs_server server = {2, 5, CBS_SOFT};
     struct setup setup;
-    struct cbs_turned turn;
+    struct cbs_turn turn;
     uint64_t now = 0, span = UNTOUCHED;
     set_up(&setup, &server, 1, 4, 4);
     CHECK(cbs_idle_span(&setup.house, &span) == CBS_OK && span == 1000000000000);

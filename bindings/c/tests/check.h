@@ -81,7 +81,7 @@ static inline void runs(struct setup *setup, uint32_t kind, uint16_t server, uin
 
 /* Checks what a server shows of its budget. */
 static inline void shows(struct setup *setup, uint16_t server, uint64_t budget, uint64_t deadline, bool throttled) {
-    struct cbs_shown view;
+    struct cbs_view view;
     CHECK(cbs_view(&setup->house, server, &view) == CBS_OK);
     CHECK(view.budget == budget && view.deadline_low == deadline && view.deadline_high == 0);
     CHECK(view.throttled == throttled);

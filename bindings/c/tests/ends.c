@@ -43,7 +43,7 @@ static void starts(struct sender *sender, struct cbs_handle client, uint32_t uni
 static void serves(struct setup *setup, uint64_t jobs) {
     uint64_t finished = 0;
     for (bool over = false; !over;) {
-        struct cbs_turned turn;
+        struct cbs_turn turn;
         size_t closed = 0;
         CHECK(cbs_turn(&setup->house, &turn) == CBS_OK);
         CHECK(turn.ran.kind != CBS_RUN_CLOCK_END && !turn.out_of_memory);
@@ -52,10 +52,10 @@ static void serves(struct setup *setup, uint64_t jobs) {
         }
         finished = 0;
         for (uint16_t server = 0; server < setup->n; server++) {
-            struct cbs_shown shown;
-            CHECK(cbs_view(&setup->house, server, &shown) == CBS_OK);
-            closed += shown.closed && shown.finished == shown.accepted;
-            finished += shown.finished;
+            struct cbs_view view;
+            CHECK(cbs_view(&setup->house, server, &view) == CBS_OK);
+            closed += view.closed && view.finished == view.accepted;
+            finished += view.finished;
         }
         over = turn.over;
         CHECK(over == (closed == setup->n));
@@ -130,7 +130,7 @@ static void houses_go(void) {
     }
     for (size_t house = 0; house < HOUSES; house++) {
         for (size_t i = 0; i < 100 * house; i++) {
-            struct cbs_turned turn;
+            struct cbs_turn turn;
             CHECK(cbs_turn(&setups[house].house, &turn) == CBS_OK);
         }
         cbs_free(&setups[house].house);

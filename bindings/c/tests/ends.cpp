@@ -87,7 +87,7 @@ struct Sender {
 // Takes turns until all is over, and checks how many jobs were finished in all.
 void serves(Opened &opened, std::uint64_t jobs) {
     std::uint64_t finished = 0;
-    cbs_turned turn{};
+    struct cbs_turn turn{};
     while (!turn.over) {
         CHECK(cbs_turn(opened.house.get(), &turn) == CBS_OK);
         CHECK(turn.ran.kind != CBS_RUN_CLOCK_END && !turn.out_of_memory);
@@ -138,7 +138,7 @@ void houses_go() {
     }
     for (std::size_t turns = 0; !houses.empty(); turns += 100) {
         for (std::size_t i = 0; i < turns; i++) {
-            cbs_turned turn;
+            struct cbs_turn turn;
             CHECK(cbs_turn(houses.front().house.get(), &turn) == CBS_OK);
         }
         houses.pop_front();

@@ -11,13 +11,13 @@ struct guarded_house { char before; struct cbs_handle it; char after[8]; };
 struct guarded_clients { char before; struct cbs_handle it[2]; char after[8]; };
 struct guarded_server { char before; struct cbs_server it; char after[8]; };
 struct guarded_unit { char before; struct cbs_unit it; char after[8]; };
-struct guarded_turn { char before; struct cbs_turned it; char after[8]; };
-struct guarded_view { char before; struct cbs_shown it; char after[8]; };
+struct guarded_turn { char before; struct cbs_turn it; char after[8]; };
+struct guarded_view { char before; struct cbs_view it; char after[8]; };
 
 /* What the declarations of other languages count on. */
 static void layouts(void) {
     CHECK(sizeof(struct cbs_handle) == 16 && sizeof(struct cbs_server) == 24 && sizeof(struct cbs_unit) == 24);
-    CHECK(sizeof(struct cbs_turned) == 48 && sizeof(struct cbs_shown) == 48);
+    CHECK(sizeof(struct cbs_turn) == 48 && sizeof(struct cbs_view) == 48);
     CHECK(offsetof(struct guarded_house, it) == 8 && offsetof(struct guarded_server, it) == 8 && offsetof(struct guarded_unit, it) == 8);
     CHECK(offsetof(struct guarded_turn, it) == 8 && offsetof(struct guarded_view, it) == 8);
     FIELD(cbs_server, budget, 0, 8);
@@ -27,18 +27,18 @@ static void layouts(void) {
     FIELD(cbs_unit, server, 4, 2);
     FIELD(cbs_unit, seq, 8, 8);
     FIELD(cbs_unit, token, 16, 8);
-    FIELD(cbs_turned, took, 0, 8);
-    FIELD(cbs_turned, advanced, 8, 8);
-    FIELD(cbs_turned, ran, 16, 24);
-    FIELD(cbs_turned, out_of_memory, 40, 1);
-    FIELD(cbs_turned, over, 41, 1);
-    FIELD(cbs_shown, budget, 0, 8);
-    FIELD(cbs_shown, deadline_low, 8, 8);
-    FIELD(cbs_shown, deadline_high, 16, 8);
-    FIELD(cbs_shown, accepted, 24, 8);
-    FIELD(cbs_shown, finished, 32, 8);
-    FIELD(cbs_shown, throttled, 40, 1);
-    FIELD(cbs_shown, closed, 41, 1);
+    FIELD(cbs_turn, took, 0, 8);
+    FIELD(cbs_turn, advanced, 8, 8);
+    FIELD(cbs_turn, ran, 16, 24);
+    FIELD(cbs_turn, out_of_memory, 40, 1);
+    FIELD(cbs_turn, over, 41, 1);
+    FIELD(cbs_view, budget, 0, 8);
+    FIELD(cbs_view, deadline_low, 8, 8);
+    FIELD(cbs_view, deadline_high, 16, 8);
+    FIELD(cbs_view, accepted, 24, 8);
+    FIELD(cbs_view, finished, 32, 8);
+    FIELD(cbs_view, throttled, 40, 1);
+    FIELD(cbs_view, closed, 41, 1);
 }
 
 /* The library has these layouts, too: it writes each field, and nothing beside the struct, and reads nothing between fields. */

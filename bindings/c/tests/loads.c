@@ -113,7 +113,7 @@ static void does(const struct cbs_unit *unit) {
 }
 
 static void serve(struct cbs_handle *house) {
-    struct cbs_turned turn;
+    struct cbs_turn turn;
     do {
         CHECK(cbs_turn(house, &turn) == CBS_OK && turn.ran.kind != CBS_RUN_CLOCK_END);
         if (turn.ran.kind >= CBS_RUN_UNIT) {
@@ -123,7 +123,7 @@ static void serve(struct cbs_handle *house) {
         }
     } while (!turn.over);
     for (size_t server = 0; server < n; server++) {
-        struct cbs_shown view;
+        struct cbs_view view;
         CHECK(cbs_view(house, (uint16_t)server, &view) == CBS_OK);
         CHECK(view.closed && view.finished == counts[server]);
     }

@@ -95,7 +95,7 @@ static bool opens(struct setup *setup, long at, bool all) {
 /* Sends a job of one unit with memory, and has the house take it with this allocation refused, by a poll or by a turn.
  * Whether it was met; then the job stayed in its ring, and is taken with memory. */
 static bool takes(struct setup *setup, uint64_t token, bool by_turn, long at, bool all) {
-    struct cbs_turned turn;
+    struct cbs_turn turn;
     uint64_t seq, waiting = 9;
     uint32_t kind = 99;
     refuse(0, true); /* a send asks for no memory */
@@ -125,7 +125,7 @@ static bool takes(struct setup *setup, uint64_t token, bool by_turn, long at, bo
 
 /* The other calls, with no memory at all. */
 static void need_none(struct setup *setup) {
-    struct cbs_shown view;
+    struct cbs_view view;
     uint64_t number, other;
     refuse(0, true);
     CHECK(cbs_now(&setup->house, &number) == CBS_OK);
@@ -148,7 +148,7 @@ static void serves(struct setup *setup, long jobs) {
             CHECK(cbs_send(&setup->clients[server], 7, 1, &seq) == CBS_OK);
         }
         for (size_t done = 0; done < SERVERS;) {
-            struct cbs_turned turn;
+            struct cbs_turn turn;
             CHECK(cbs_turn(&setup->house, &turn) == CBS_OK && turn.ran.kind != CBS_RUN_CLOCK_END && !turn.out_of_memory);
             done += turn.ran.kind == CBS_RUN_DONE;
         }

@@ -106,16 +106,16 @@ static void tick(struct trial *trial) {
 /* The laws, by what the house shows. An overrun is less than a budget, and greedy has 1 tick, so it has none. */
 static void hold(struct trial *trial) {
     uint64_t total, most[2], now = now_of(trial);
-    struct cbs_shown shown[2];
+    struct cbs_view views[2];
     for (uint16_t server = 0; server < 2; server++) {
-        CHECK(cbs_view(&trial->setup.house, server, &shown[server]) == CBS_OK && shown[server].deadline_high == 0);
+        CHECK(cbs_view(&trial->setup.house, server, &views[server]) == CBS_OK && views[server].deadline_high == 0);
         CHECK(cbs_charges(&trial->setup.house, server, &total, &most[server]) == CBS_OK);
     }
     for (int server = 0; server < 2; server++) {
-        bool ready = shown[server].finished < shown[server].accepted && !shown[server].throttled;
-        CHECK(!ready || now < shown[server].deadline_low + most[1 - server]);
+        bool ready = views[server].finished < views[server].accepted && !views[server].throttled;
+        CHECK(!ready || now < views[server].deadline_low + most[1 - server]);
     }
-    CHECK((trial->units[GREEDY] + total + shown[GREEDY].budget) * PERIOD <= shown[GREEDY].deadline_low);
+    CHECK((trial->units[GREEDY] + total + views[GREEDY].budget) * PERIOD <= views[GREEDY].deadline_low);
 }
 
 static void run_trial(uint32_t mode, double seconds, bool charges) {

@@ -255,7 +255,7 @@ static void a_handle_that_is_not_open_is_told(void) {
 /* A house that was served before: a job is in progress, and one server is closed. */
 static void a_house_that_was_served_before_goes_on(void) {
     static const struct cbs_server servers[2] = {{1, 2, CBS_SOFT}, {1, 2, CBS_SOFT}};
-    struct cbs_turned turn;
+    struct cbs_turn turn;
     make(servers, 2, false, NULL, NULL, 0);
     sends(0, 3);
     cbs_free(&world.setup.clients[0]);

@@ -163,7 +163,7 @@ static void latency(void) {
 static void share_of(uint64_t hundredths, bool carry) {
     static const struct cbs_server servers[2] = {{1, 10, CBS_THROTTLED}, {2, 10, CBS_SOFT}};
     static const uint32_t units[2] = {1000000, 1000000};
-    struct cbs_shown shown;
+    struct cbs_view view;
     uint64_t charged, most;
     begin(servers, 2, units);
     trial.lengths[0] = TICK * hundredths / 100;
@@ -173,9 +173,9 @@ static void share_of(uint64_t hundredths, bool carry) {
     printf("share of 1 tick in 10, units of %g ticks, rounding %s: %.2f %% of the time, most behind %llu\n",
            (double)hundredths / 100, carry ? "Carry" : "Up", 100.0 * (double)trial.took / (double)(cbs_clock_now() - began),
            (unsigned long long)realtime.counts.most_behind);
-    CHECK(cbs_view(&trial.setup.house, 0, &shown) == CBS_OK);
+    CHECK(cbs_view(&trial.setup.house, 0, &view) == CBS_OK);
     CHECK(cbs_charges(&trial.setup.house, 0, &charged, &most) == CBS_OK);
-    CHECK((trial.units + charged + shown.budget) * 10 <= shown.deadline_low);
+    CHECK((trial.units + charged + view.budget) * 10 <= view.deadline_low);
     end();
 }
 

@@ -56,7 +56,7 @@ int main(void) {
     static const struct cbs_server servers[CLIENTS] = {
         {2, 5, CBS_SOFT}, {1, 5, CBS_THROTTLED}, {1, 10, CBS_SOFT}, {3, 10, CBS_THROTTLED}};
     struct setup setup;
-    struct cbs_turned turn;
+    struct cbs_turn turn;
     struct sender senders[CLIENTS];
     pthread_t threads[CLIENTS];
     uint64_t finished[CLIENTS] = {0, 0, 0, 0};

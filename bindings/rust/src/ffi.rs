@@ -84,7 +84,7 @@ pub(crate) struct Unit {
     pub(crate) token: u64,
 }
 
-/// `struct cbs_turned`.
+/// `struct cbs_turn`.
 #[repr(C)]
 #[derive(Clone, Copy, Default)]
 pub(crate) struct Turn {
@@ -95,7 +95,7 @@ pub(crate) struct Turn {
     pub(crate) over: bool,
 }
 
-/// `struct cbs_shown`.
+/// `struct cbs_view`.
 #[repr(C)]
 #[derive(Clone, Copy, Default)]
 pub(crate) struct View {

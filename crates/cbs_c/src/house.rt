@@ -2,22 +2,22 @@
 
 ghost use Rattle.cbs_embed.specs.Calls.{OnHeld, InHouse, Runs, Turns, Polls, Advances, ChargesServer, ShowsCharges, TellsClock, Spans, Shows, Promises};
 ghost use Rattle.cbs_embed.specs.Handles.{held_by};
-ghost use Rattle.cbs_c.specs.Events.{tick_event, turn_event, poll_kind, span_shown, view_shown, promise_low, promise_high};
+ghost use Rattle.cbs_c.specs.Values.{unit_shown, turn_shown, poll_kind, span_shown, view_shown, promise_low, promise_high};
 ghost use Rattle.cbs_c.specs.Statuses.{Answers, Tells};
 
-use crate::events::{Event, TurnEvent, View, event_of, high, kind_of, low, turn_event_of, view_of};
 use crate::status::{status_of, tell};
+use crate::values::{Turn, Unit, View, high, kind_of, low, turn_of, unit_of, view_of};
 use cbs_embed::{Handle, calls};
 
 /// Runs one unit, and writes what ran. Returns the status.
 #[unsafe(no_mangle)]
-pub extern "C" fn cbs_run(house: &mut Handle, out: &mut Event) -> u32
-    ensures { Tells (OnHeld (InHouse Runs)) tick_event (held_by house.old) out.old result
+pub extern "C" fn cbs_run(house: &mut Handle, out: &mut Unit) -> u32
+    ensures { Tells (OnHeld (InHouse Runs)) unit_shown (held_by house.old) out.old result
         (held_by house.new) out.new }
 {
     match calls::run(house) {
-        Ok(ticked) => {
-            *out = event_of(ticked);
+        Ok(unit) => {
+            *out = unit_of(unit);
             0
         }
         Err(refusal) => refusal.status(),
@@ -26,13 +26,13 @@ pub extern "C" fn cbs_run(house: &mut Handle, out: &mut Event) -> u32
 
 /// Takes a turn, and writes what it did. Returns the status.
 #[unsafe(no_mangle)]
-pub extern "C" fn cbs_turn(house: &mut Handle, out: &mut TurnEvent) -> u32
-    ensures { Tells (OnHeld (InHouse Turns)) turn_event (held_by house.old) out.old result
+pub extern "C" fn cbs_turn(house: &mut Handle, out: &mut Turn) -> u32
+    ensures { Tells (OnHeld (InHouse Turns)) turn_shown (held_by house.old) out.old result
         (held_by house.new) out.new }
 {
     match calls::turn(house) {
-        Ok(turned) => {
-            *out = turn_event_of(turned);
+        Ok(turn) => {
+            *out = turn_of(turn);
             0
         }
         Err(refusal) => refusal.status(),

@@ -4,11 +4,11 @@
 #![tactic(auto)]
 
 mod client;
-mod events;
 mod handles;
 mod house;
 mod status;
+mod values;
 mod version;
 
-pub use events::{Event, TurnEvent, View};
+pub use values::{Turn, Unit, View};
 pub use version::{MAJOR, MINOR, PATCH};

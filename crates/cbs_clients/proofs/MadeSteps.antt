@@ -72,6 +72,10 @@ module _ {W A : Type 0} {g : Ghosts W} where
   looks_results a b l s = ap (λ (x : Seat W). x.results) (l.seats s).same
 
 module _ {W A : Type 0} {g : Ghosts W} (work : Meaning W) where
+  -- a poll of a server that is there does not say that there is none
+  pub polled_there : (a b : House W A g) (s : ℕ) (p : Poll) → Polled work a s p b → s < length (core_of a).faces → p ≡ NoSuchServer → b ≡ a
+  polled_there a b s p polled within is = let past = (rw is at polled).1 in absurd (omega (arith, within, past))
+
   -- steps, and more steps
   pub made_both : (a b c : House W A g) (xs ys : List (Step W)) → Made work a b xs → Made work b c ys → Made work a c (xs ++ ys)
   made_both a b c xs ys p q = record {

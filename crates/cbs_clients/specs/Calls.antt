@@ -39,6 +39,7 @@ use Rattle.cbs_clients.specs.declared.error.SendError.TheVariants.{Ended, RingFu
 use Rattle.cbs_clients.specs.declared.house.House.{House}
 use Rattle.cbs_clients.specs.declared.message.Message.TheVariants.{Job, End}
 use Rattle.cbs_host.specs.declared.poll.Poll.{Poll}
+use Rattle.cbs_host.specs.declared.poll.Poll.TheVariants as poll
 use Rattle.cbs_clients.specs.declared.turn.Turn.{Turn}
 
 module _ {W A : Type 0} {g : Ghosts W} where
@@ -51,13 +52,15 @@ module _ {W A : Type 0} {g : Ghosts W} where
     pub paced : IsHousePaced h
     pub punctual : (steps : List (Step W)) → IsPunctual work (record { setup = setup; steps = steps })
 
-  -- a poll of server s: it makes one step or none, by its result, and keeps the results of all servers
+  -- A poll of server s: it makes one step or none, by its result, and keeps the results of all servers. If there is no
+  -- such server, the house is the same.
   pub record PollOf (work : Meaning W) (s : ℕ) (old : House W A g) (answer : Poll) (new : House W A g) : Type 0 where
     pub polled : Polled work old s answer new
     pub on_time : IsHouseOnTime old → IsHouseOnTime new
     pub paced : IsHousePaced old → IsHousePaced new
     pub rings : rings_of new ≡ rings_of old
     pub results : KeepsResults old new
+    pub same : answer ≡ poll.NoSuchServer → new ≡ old
 
   -- a run: its result is that of the rules; it makes this one step, and collects a completion
   pub record RunOf (work : Meaning W) (old : House W A g) (told : Ran) (new : House W A g) : Type 0 where

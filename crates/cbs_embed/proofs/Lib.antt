@@ -5,3 +5,4 @@ pub mod Openings
 pub mod InHandles
 pub mod Admissions
 pub mod Drops
+pub mod Polled

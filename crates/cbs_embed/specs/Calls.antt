@@ -17,14 +17,14 @@ use Rattle.cbs_host.specs.declared.poll.Poll.{Poll}
 use Rattle.cbs_job.specs.Tasks.{task_refusal}
 use Rattle.cbs_embed.specs.Jobs.{counting}
 use Rattle.cbs_embed.specs.contracts.job.UnitJobWork.TheImpl.{ghosts}
-use Rattle.cbs_embed.specs.declared.calls.Ticked.{Ticked}
-use Rattle.cbs_embed.specs.declared.calls.Turned.{Turned}
 use Rattle.cbs_embed.specs.declared.held.Held.{Held}
 use Rattle.cbs_embed.specs.declared.held.Held.TheVariants.{House, Client}
 use Rattle.cbs_embed.specs.declared.job.UnitJob.{UnitJob}
 use Rattle.cbs_embed.specs.declared.refusal.HandleError.TheVariants.{NotOpen, OtherKind, HouseGone}
 use Rattle.cbs_embed.specs.declared.refusal.Refusal.{Refusal}
 use Rattle.cbs_embed.specs.declared.refusal.Refusal.TheVariants as refused
+use Rattle.cbs_embed.specs.declared.told.Turn.{Turn}
+use Rattle.cbs_embed.specs.declared.told.Unit as unit
 
 abbrev pub TheHouse : Type 0
 TheHouse = house.House UnitJob Global ghosts
@@ -87,13 +87,13 @@ pub record RunsAndDrops (old : TheHouse) (told : Ran) (token : ℕ) (new : TheHo
   pub on_time : IsHouseOnTime old → IsHouseOnTime new
   pub paced : IsHousePaced old → IsHousePaced new
 
-abbrev pub Runs : TheHouse → Result Ticked Refusal → TheHouse → Type 0
-Runs old (Ok ticked) new = RunsAndDrops old ticked.ran ticked.token new
+abbrev pub Runs : TheHouse → Result unit.Unit Refusal → TheHouse → Type 0
+Runs old (Ok told) new = RunsAndDrops old told.ran told.token new
 Runs old (Err e) new = ⊥
 
 -- The house took a turn, with this result: what ran, its token, and whether all is over after the turn. Then the result
 -- of a finished job was dropped.
-pub record TurnsAndDrops (old : TheHouse) (told : Turned) (new : TheHouse) : Type 0 where
+pub record TurnsAndDrops (old : TheHouse) (told : Turn) (new : TheHouse) : Type 0 where
   pub between : TheHouse
   pub turn : TurnOf counting old told.turn between
   pub named : NamesToken told.turn.ran told.token between
@@ -102,8 +102,8 @@ pub record TurnsAndDrops (old : TheHouse) (told : Turned) (new : TheHouse) : Typ
   pub on_time : IsHouseOnTime old → IsHouseOnTime new
   pub paced : IsHousePaced old → IsHousePaced new
 
-abbrev pub Turns : TheHouse → Result Turned Refusal → TheHouse → Type 0
-Turns old (Ok turned) new = TurnsAndDrops old turned new
+abbrev pub Turns : TheHouse → Result Turn Refusal → TheHouse → Type 0
+Turns old (Ok told) new = TurnsAndDrops old told new
 Turns old (Err e) new = ⊥
 
 -- the house has a server s

@@ -5,40 +5,21 @@ ghost use Rattle.cbs_embed.specs.Handles.{held_by};
 
 use crate::handle::Handle;
 use crate::refusal::Refusal;
+use crate::told::{Turn, Unit};
 use crate::{on_client, on_house};
-use cbs_core::{Charges, Ran, ServerView};
-use cbs_house::{Poll, Turn};
-
-/// The result of a run, and the token of the job that got the unit.
-#[derive(Clone, Copy, Debug, PartialEq, Eq)]
-pub struct Ticked {
-    /// The result of the run.
-    pub ran: Ran,
-    /// The token of the job that got the unit, or 0.
-    pub token: u64,
-}
+use cbs_core::{Charges, ServerView};
+use cbs_house::Poll;
 
 /// Runs one unit, as [`House::run`] does. Returns what ran, and its token.
-pub fn run(handle: &mut Handle) -> Result<Ticked, Refusal>
+pub fn run(handle: &mut Handle) -> Result<Unit, Refusal>
     ensures { OnHeld (InHouse Runs) (held_by handle.old) result (held_by handle.new) }
 {
     on_house::run(handle.house_mut()?)
 }
 
-/// The result of a turn, the token of the job that got a unit, and whether all is over.
-#[derive(Clone, Copy, Debug, PartialEq, Eq)]
-pub struct Turned {
-    /// The result of the turn.
-    pub turn: Turn,
-    /// The token of the job that got a unit, or 0.
-    pub token: u64,
-    /// Whether every server is closed and every job is finished, after the turn.
-    pub over: bool,
-}
-
 /// Takes a turn, as [`House::turn`] does. Returns what the turn did, the token of the unit's job, and whether all is
 /// over.
-pub fn turn(handle: &mut Handle) -> Result<Turned, Refusal>
+pub fn turn(handle: &mut Handle) -> Result<Turn, Refusal>
     ensures { OnHeld (InHouse Turns) (held_by handle.old) result (held_by handle.new) }
 {
     on_house::turn(handle.house_mut()?)

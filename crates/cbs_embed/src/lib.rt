@@ -15,6 +15,7 @@ mod planning;
 mod refusal;
 mod server;
 mod texts;
+mod told;
 
 pub use cbs_rules::Setup;
 pub use handle::Handle;
@@ -25,3 +26,4 @@ pub use planning::{admit, greatest_budget, mode_of, take_all, whole_processor};
 pub use refusal::{HandleError, Refusal};
 pub use server::Server;
 pub use texts::text_of;
+pub use told::{Turn, Unit};

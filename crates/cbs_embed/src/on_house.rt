@@ -1,15 +1,12 @@
 //! What the calls on a handle do to its house.
 
-ghost use Rattle.std.specs.Prelude.{◌≡◌, ◌≤◌, length, MatchResult};
-ghost use Rattle.cbs_clients.specs.Houses.{core_of, NamesJob};
-ghost use Rattle.cbs_clients.specs.declared.error.HouseError.TheVariants.{NoSuchServer};
-ghost use Rattle.cbs_embed.specs.Calls.{Drops, Runs, Turns, HasServer, Polls, Advances, ChargesServer, ShowsCharges, TellsClock, Spans, Shows, Promises, NamesToken};
+ghost use Rattle.cbs_clients.specs.Houses.{NamesJob};
+ghost use Rattle.cbs_embed.specs.Calls.{Drops, Runs, Turns, Polls, Advances, ChargesServer, ShowsCharges, TellsClock, Spans, Shows, Promises, NamesToken};
 ghost use Rattle.cbs_embed.specs.Jobs.{counting};
-ghost use Rattle.cbs_embed.specs.declared.refusal.Refusal.TheVariants as refused;
 
-use crate::calls::{Ticked, Turned};
 use crate::job::UnitJob;
 use crate::refusal::Refusal;
+use crate::told::{Turn, Unit};
 use cbs_core::{Charges, Ran, ServerView};
 use cbs_house::{House, HouseError, Poll};
 
@@ -35,44 +32,34 @@ fn forget(house: &mut House<UnitJob>, ran: Ran)
 }
 
 /// Runs one unit.
-pub(crate) fn run(house: &mut House<UnitJob>) -> Result<Ticked, Refusal>
+pub(crate) fn run(house: &mut House<UnitJob>) -> Result<Unit, Refusal>
     ensures { Runs house.old result house.new }
 {
     let ran = house.run();
     let token = token_of(house, ran);
     forget(house, ran);
-    Ok(Ticked { ran, token })
+    Ok(Unit { ran, token })
 }
 
 /// Takes a turn.
-pub(crate) fn turn(house: &mut House<UnitJob>) -> Result<Turned, Refusal>
+pub(crate) fn turn(house: &mut House<UnitJob>) -> Result<Turn, Refusal>
     ensures { Turns house.old result house.new }
 {
     let turn = house.turn();
     let token = token_of(house, turn.ran);
     forget(house, turn.ran);
     let over = house.is_over();
-    Ok(Turned { turn, token, over })
-}
-
-/// Refuses the number of a server that the house does not have, by [`HouseError::NoSuchServer`].
-fn require_server(house: &House<UnitJob>, server: u16) -> Result<(), Refusal>
-    ensures { MatchResult result
-        (λ _. HasServer server house.now)
-        (λ e. (e ≡ refused.House NoSuchServer) × (length (core_of house.now).faces ≤ server)) }
-{
-    if server >= house.servers() {
-        return Err(Refusal::House(HouseError::NoSuchServer));
-    }
-    Ok(())
+    Ok(Turn { turn, token, over })
 }
 
 /// Looks for the next message of a server.
 pub(crate) fn poll(house: &mut House<UnitJob>, server: u16) -> Result<Poll, Refusal>
     ensures { Polls server house.old result house.new }
 {
-    require_server(house, server)?;
-    Ok(house.poll(server))
+    match house.poll(server) {
+        Poll::NoSuchServer => Err(Refusal::House(HouseError::NoSuchServer)),
+        answer => Ok(answer),
+    }
 }
 
 /// Lets ticks pass.
@@ -123,6 +110,8 @@ pub(crate) fn view(house: &mut House<UnitJob>, server: u16) -> Result<ServerView
 pub(crate) fn promised(house: &mut House<UnitJob>, server: u16) -> Result<Option<u128>, Refusal>
     ensures { Promises server house.old result house.new }
 {
-    require_server(house, server)?;
+    if server >= house.servers() {
+        return Err(Refusal::House(HouseError::NoSuchServer));
+    }
     Ok(house.promised(server))
 }

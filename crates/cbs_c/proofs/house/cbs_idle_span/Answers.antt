@@ -1,6 +1,6 @@
 use Rattle.std.proofs.Common.{refl}
 use Rattle.cbs_embed.specs.Calls.{OnHeld, InHouse, Spans}
-use Rattle.cbs_c.specs.Events.{span_shown}
+use Rattle.cbs_c.specs.Values.{span_shown}
 use Rattle.cbs_c.proofs.Told.{told_ok, told_err}
 use Rattle.cbs_c.proofs.house.cbs_idle_span.Goals as goal
 

@@ -1,6 +1,6 @@
 use Rattle.std.proofs.Common.{refl}
 use Rattle.cbs_embed.specs.Calls.{OnHeld, InHouse, Polls}
-use Rattle.cbs_c.specs.Events.{poll_kind}
+use Rattle.cbs_c.specs.Values.{poll_kind}
 use Rattle.cbs_c.proofs.Told.{told_ok, told_err}
 use Rattle.cbs_c.proofs.house.cbs_poll.Goals as goal
 

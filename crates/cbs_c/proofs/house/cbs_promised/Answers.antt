@@ -1,6 +1,6 @@
 use Rattle.std.proofs.Common.{refl, ap, ◌∙◌, ◌%◌, ◌/◌, ◌^◌}
 use Rattle.cbs_embed.specs.Calls.{OnHeld, InHouse, Promises}
-use Rattle.cbs_c.specs.Events.{promise_low, promise_high}
+use Rattle.cbs_c.specs.Values.{promise_low, promise_high}
 use Rattle.cbs_c.proofs.Told.{told_ok, told_err}
 use Rattle.cbs_c.proofs.house.cbs_promised.Goals as goal
 

@@ -1,6 +1,6 @@
 use Rattle.std.proofs.Common.{refl}
 use Rattle.cbs_embed.specs.Calls.{OnHeld, InHouse, Shows}
-use Rattle.cbs_c.specs.Events.{view_shown}
+use Rattle.cbs_c.specs.Values.{view_shown}
 use Rattle.cbs_c.proofs.Told.{told_ok, told_err}
 use Rattle.cbs_c.proofs.house.cbs_view.Goals as goal
 

@@ -1,7 +1,9 @@
-use Rattle.std.proofs.Common.{refl, ◌∙◌, inr, arith, rules}
+use Rattle.cbs_clients.specs.Houses.{core_of}
+use Rattle.cbs_host.specs.declared.poll.Poll.TheVariants.{Nothing}
+use Rattle.std.proofs.Common.{◌<◌, length, refl, ◌∙◌, inr, arith, rules}
 use Rattle.std.proofs.lemmas.List.{nil_from_length}
 use Rattle.cbs_clients.proofs.HouseInvariant.{same_shelf}
-use Rattle.cbs_clients.proofs.MadeSteps.{made_nothing, made_room, polled_after}
+use Rattle.cbs_clients.proofs.MadeSteps.{made_nothing, made_room, polled_after, polled_there}
 use Rattle.cbs_clients.proofs.Moves.{polled_on_time}
 use Rattle.cbs_clients.proofs.PacedMoves.{polled_paced}
 use Rattle.cbs_clients.proofs.house.House.poll.Goals as goal
@@ -9,7 +11,7 @@ use Rattle.cbs_clients.proofs.house.House.poll.Goals as goal
 pub returns-then-index-len : goal.returns-then-index-len
 returns-then-index-len g c =
     let rings = c.args.self.now.housed.ring_count in
-    record { polled = (made_nothing g.W.Work.meaning _, omega arith); on_time = λ on. on; paced = λ on. on; rings = refl; results = λ s. refl }
+    record { polled = (made_nothing g.W.Work.meaning _, omega arith); on_time = λ on. on; paced = λ on. on; rings = refl; results = λ s. refl; same = λ no. refl }
 
 pub returns-then-is_empty : goal.returns-then-is_empty
 returns-then-is_empty g c =
@@ -25,6 +27,7 @@ returns-then-is_empty g c =
       paced = λ on. on;
       rings = c.is_empty.ensures.looked.rings;
       results = λ s. refl;
+      same = λ no. absurd (cc no);
     }
 
 pub returns : goal.returns
@@ -34,12 +37,17 @@ returns g c =
     let t = c.take_seen in
     let made = made_room work a _ c.is_empty.ensures.looked (λ M agrees. agrees) (λ s. same_shelf _) in
     let polled = polled_after work a _ t.new.self c.args.server t.result made refl t.ensures.polled in
+    let rings = a.housed.ring_count in
+    let index = c.from-index.ensures in
+    let ring = c.if-index-len.false in
+    let within : c.args.server < length (core_of a).faces = omega (arith, rings, index, ring) in
     record {
       polled = polled;
       on_time = polled_on_time work a t.new.self c.args.server t.result a.housed.history polled;
       paced = polled_paced work a t.new.self c.args.server t.result a.housed.history polled;
       rings = t.ensures.rings ∙ c.is_empty.ensures.looked.rings;
       results = t.ensures.results;
+      same = polled_there work a t.new.self c.args.server t.result polled within;
     }
 
 pub is_empty-requires : goal.is_empty-requires

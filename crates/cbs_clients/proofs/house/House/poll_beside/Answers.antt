@@ -1,4 +1,4 @@
-use Rattle.cbs_clients.proofs.MadeSteps.{looks_results}
+use Rattle.cbs_clients.proofs.MadeSteps.{looks_results, polled_there}
 use Rattle.cbs_host.specs.declared.poll.Poll.TheVariants.{Nothing}
 use Rattle.std.proofs.Common.{◌<◌, length, refl, subst, sym, ◌∙◌, arith, inl, inr}
 use Rattle.cbs_core.specs.Held.{IsClosed}
@@ -35,6 +35,7 @@ returns-then-settle-eq0-clause-poll g c =
       paced = polled_paced g.W.Work.meaning a s.new.self (server_of client) Nothing a.housed.history polled;
       rings = s.ensures.looked.rings;
       results = looks_results a s.new.self s.ensures.looked;
+      same = polled_there g.W.Work.meaning a s.new.self (server_of client) Nothing polled within;
     }
 
 pub returns-clause-nothing : goal.returns-clause-nothing
@@ -65,10 +66,14 @@ returns-clause-poll g c =
     let t = server_of c.args.client.now in
     let polled = subst (λ x. Polled g.W.Work.meaning s.new.self x p.result p.new.self) (c.server.ensures ∙ s.ensures.client.same.0) p.ensures.polled in
     let behind = polled_behind g.W.Work.meaning a s.new.self p.new.self t p.result s.ensures.looked polled in
+    let opened : t < length (rings_of a) = opened_within (rings_of a) c.args.client.now c.requires in
+    let count = a.housed.ring_count in
+    let within : t < length (core_of a).faces = omega (arith, opened, count) in
     record {
       polled = behind;
       on_time = polled_on_time g.W.Work.meaning a p.new.self t p.result a.housed.history behind;
       paced = polled_paced g.W.Work.meaning a p.new.self t p.result a.housed.history behind;
       rings = p.ensures.rings ∙ s.ensures.looked.rings;
       results = λ r. p.ensures.results r ∙ looks_results a s.new.self s.ensures.looked r;
+      same = polled_there g.W.Work.meaning a p.new.self t p.result behind within;
     }

@@ -10,5 +10,5 @@ loop-init c =
     opened (λ h. IsHousePaced h) (held_by c.open.new.house) o.house o.holds o.new.paced
 
 pub loop-preserved : goal.loop-preserved
-loop-preserved c = called Turns (λ h. IsHousePaced h) c.in_ok-turn.field-0 (λ a b turned. turned.paced)
+loop-preserved c = called Turns (λ h. IsHousePaced h) c.in_ok-turn.field-0 (λ a b turn. turn.paced)
     (held_by c.loop.house) (held_by c.turn.new.handle) c.in_ok-turn.ensures c.loop.invariant

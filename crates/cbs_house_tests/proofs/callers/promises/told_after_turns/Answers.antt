@@ -10,5 +10,5 @@ loop-init c =
     opened (λ h. IsHouseOnTime h) (held_by c.open.new.house) o.house o.holds o.new.on_time
 
 pub loop-preserved : goal.loop-preserved
-loop-preserved c = called Turns (λ h. IsHouseOnTime h) c.in_ok-turn.field-0 (λ a b turned. turned.on_time)
+loop-preserved c = called Turns (λ h. IsHouseOnTime h) c.in_ok-turn.field-0 (λ a b turn. turn.on_time)
     (held_by c.loop.house) (held_by c.turn.new.handle) c.in_ok-turn.ensures c.loop.invariant

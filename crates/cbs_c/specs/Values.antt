@@ -1,34 +1,34 @@
--- The results of a house in their form for C.
+-- The values that C is shown of a house.
 use Rattle.std.specs.Prelude.{ℕ, ◌-◌, ◌%◌, ◌/◌, ◌^◌, Option}
 use Rattle.std.specs.Option.{unwrap_or}
 use Rattle.cbs_steps.specs.declared.reply.Ran.{Ran}
-use Rattle.cbs_steps.specs.declared.reply.Ran.TheVariants.{Idle, ClockEnd, Unit, Done}
+use Rattle.cbs_steps.specs.declared.reply.Ran.TheVariants as ran
 use Rattle.cbs_steps.specs.declared.view.ServerView.{ServerView}
 use Rattle.cbs_host.specs.declared.poll.Poll.{Poll}
 use Rattle.cbs_host.specs.declared.poll.Poll.TheVariants as poll
-use Rattle.cbs_embed.specs.declared.calls.Ticked.{Ticked}
-use Rattle.cbs_embed.specs.declared.calls.Turned.{Turned}
-use Rattle.cbs_c.specs.declared.events.Event.{Event}
-use Rattle.cbs_c.specs.declared.events.TurnEvent.{TurnEvent}
-use Rattle.cbs_c.specs.declared.events.View.{View}
+use Rattle.cbs_embed.specs.declared.told.Turn as told_turn
+use Rattle.cbs_embed.specs.declared.told.Unit as told_unit
+use Rattle.cbs_c.specs.declared.values.Turn.{Turn}
+use Rattle.cbs_c.specs.declared.values.Unit as unit
+use Rattle.cbs_c.specs.declared.values.View.{View}
 
--- the event of a run, with this token
-abbrev pub ran_event : Ran → ℕ → Event
-ran_event Idle token = record { kind = 0; server = 0; seq = 0; token = token }
-ran_event ClockEnd token = record { kind = 1; server = 0; seq = 0; token = token }
-ran_event (Unit s q) token = record { kind = 2; server = s; seq = q; token = token }
-ran_event (Done c) token = record { kind = 3; server = c.server; seq = c.seq; token = token }
+-- the unit of a run's result and a token, for C
+abbrev pub ran_shown : Ran → ℕ → unit.Unit
+ran_shown ran.Idle token = record { kind = 0; server = 0; seq = 0; token = token }
+ran_shown ran.ClockEnd token = record { kind = 1; server = 0; seq = 0; token = token }
+ran_shown (ran.Unit s q) token = record { kind = 2; server = s; seq = q; token = token }
+ran_shown (ran.Done c) token = record { kind = 3; server = c.server; seq = c.seq; token = token }
 
--- the event of a run, with the run's token
-abbrev pub tick_event : Ticked → Event
-tick_event t = ran_event t.ran t.token
+-- the unit of a run for C
+abbrev pub unit_shown : told_unit.Unit → unit.Unit
+unit_shown u = ran_shown u.ran u.token
 
--- the event of a turn
-abbrev pub turn_event : Turned → TurnEvent
-turn_event t = record {
+-- a turn for C
+abbrev pub turn_shown : told_turn.Turn → Turn
+turn_shown t = record {
   took = t.turn.took;
   advanced = t.turn.advanced;
-  ran = ran_event t.turn.ran t.token;
+  ran = ran_shown t.turn.ran t.token;
   out_of_memory = t.turn.out_of_memory;
   over = t.over;
 }

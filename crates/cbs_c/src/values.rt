@@ -1,16 +1,15 @@
 //! The values that the calls on a house write.
 
 ghost use Rattle.std.specs.Prelude.{◌≡◌, ◌%◌, ◌/◌, ◌^◌};
-ghost use Rattle.cbs_c.specs.Events.{ran_event, turn_event, view_shown, poll_kind};
+ghost use Rattle.cbs_c.specs.Values.{unit_shown, turn_shown, view_shown, poll_kind};
 
 use cbs_core::{Ran, ServerView};
-use cbs_embed::calls::{Ticked, Turned};
 use cbs_house::Poll;
 
 /// The result of a run: `struct cbs_unit`.
 #[repr(C)]
 #[derive(Clone, Copy)]
-pub struct Event {
+pub struct Unit {
     /// 0 idle, 1 the clock's end, 2 a unit, 3 the last unit of its job.
     pub kind: u32,
     /// The server of the job that got a unit.
@@ -21,23 +20,23 @@ pub struct Event {
     pub token: u64,
 }
 
-/// The result of a turn: `struct cbs_turned`.
+/// The result of a turn: `struct cbs_turn`.
 #[repr(C)]
 #[derive(Clone, Copy)]
-pub struct TurnEvent {
+pub struct Turn {
     /// The number of messages that the turn took.
     pub took: u64,
     /// The ticks by which the turn advanced the clock.
     pub advanced: u64,
     /// What ran.
-    pub ran: Event,
+    pub ran: Unit,
     /// Whether a message was seen for which memory was refused.
     pub out_of_memory: bool,
     /// Whether every server is closed and every job is finished.
     pub over: bool,
 }
 
-/// The view of a server: `struct cbs_shown`.
+/// The view of a server: `struct cbs_view`.
 #[repr(C)]
 #[derive(Clone, Copy)]
 pub struct View {
@@ -57,33 +56,33 @@ pub struct View {
     pub closed: bool,
 }
 
-/// Returns the event of a run.
-pub(crate) fn event_of(ticked: Ticked) -> Event
-    ensures { result ≡ ran_event ticked.ran ticked.token }
+/// Returns the unit of a run for C.
+pub(crate) fn unit_of(unit: cbs_embed::Unit) -> Unit
+    ensures { result ≡ unit_shown unit }
 {
-    let (kind, server, seq) = match ticked.ran {
+    let (kind, server, seq) = match unit.ran {
         Ran::Idle => (0, 0, 0),
         Ran::ClockEnd => (1, 0, 0),
         Ran::Unit { server, seq } => (2, server, seq),
         Ran::Done(done) => (3, done.server, done.seq),
     };
-    Event {
+    Unit {
         kind,
         server,
         seq,
-        token: ticked.token,
+        token: unit.token,
     }
 }
 
-/// Returns the event of a turn.
-pub(crate) fn turn_event_of(turned: Turned) -> TurnEvent
-    ensures { result ≡ turn_event turned }
+/// Returns a turn for C.
+pub(crate) fn turn_of(turn: cbs_embed::Turn) -> Turn
+    ensures { result ≡ turn_shown turn }
 {
-    let Turned { turn, token, over } = turned;
-    TurnEvent {
+    let cbs_embed::Turn { turn, token, over } = turn;
+    Turn {
         took: turn.took,
         advanced: turn.advanced,
-        ran: event_of(Ticked {
+        ran: unit_of(cbs_embed::Unit {
             ran: turn.ran,
             token,
         }),
