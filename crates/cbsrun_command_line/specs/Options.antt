@@ -10,6 +10,10 @@ use Rattle.cbsrun_command_line.specs.declared.actions.Action.TheVariants as acti
 use Rattle.cbsrun_command_line.specs.declared.actions.Form.TheVariants.{Report}
 use Rattle.cbsrun_command_line.specs.declared.actions.Verb.TheVariants.{Replay, Serve}
 
+-- the value of which this is true, or none if it is true of no value
+abbrev pub Finds : {A : Type 0} → Option A → (A → Type 0) → Type 0
+Finds {A} found Is = MatchOption found ((x : A) → ¬ (Is x)) Is
+
 -- the texts of the options that are given: the form of the output, the first tick to show, and the tick after the last
 -- one
 pub record Said : Type 0 where

@@ -1,11 +1,9 @@
 //! The options of a command, and what they ask for.
 
-ghost use Rattle.std.specs.Prelude.{◌≡◌, ℕ, codes, IfOk, MatchOption, Some};
-ghost use Rattle.cbsrun_window.specs.declared.window.Window.{Window as Ticks};
+ghost use Rattle.std.specs.Prelude.{◌≡◌, codes, IfOk, Some};
 ghost use Rattle.cbsrun_command_line.specs.Actions.{drawing_name, form_name};
 ghost use Rattle.cbsrun_command_line.specs.Faults.{words_fault_number};
-ghost use Rattle.cbsrun_command_line.specs.Options.{AsksFor, AsksPlainly, AsksTicks, IsTick, said, text_of};
-ghost use Rattle.cbsrun_command_line.specs.declared.actions.Action.{Action as Wanted};
+ghost use Rattle.cbsrun_command_line.specs.Options.{AsksFor, AsksPlainly, AsksTicks, Finds, IsTick, said, text_of};
 
 use crate::actions::{Action, Drawing, Form, Verb};
 use crate::fault::WordsFault;
@@ -16,8 +14,7 @@ use std::fmt::Write;
 /// Returns the tick that an option gives, or `otherwise` if the option is not there. Returns `None` if its text is no
 /// whole number below 2^64.
 fn tick_of(said: Option<&str>, otherwise: u64) -> Option<u64>
-    ensures { MatchOption result ((n : ℕ) → ¬ IsTick (text_of said.entry) otherwise n)
-        (IsTick (text_of said.entry) otherwise) }
+    ensures { Finds result (IsTick (text_of said.entry) otherwise) }
 {
     match said {
         None => Some(otherwise),
@@ -28,8 +25,7 @@ fn tick_of(said: Option<&str>, otherwise: u64) -> Option<u64>
 /// Returns the ticks that the options `--from` and `--to` ask for. Returns `None` if they ask for no ticks, or for more
 /// than can be shown at a time.
 fn ticks_of(from: Option<&str>, to: Option<&str>) -> Option<Window>
-    ensures { MatchOption result ((w : Ticks) → ¬ AsksTicks (text_of from.entry) (text_of to.entry)
-        w) (AsksTicks (text_of from.entry) (text_of to.entry)) }
+    ensures { Finds result (AsksTicks (text_of from.entry) (text_of to.entry)) }
 {
     let first = tick_of(from, 0)?;
     let end = tick_of(to, first.saturating_add(MOST_TICKS))?;
@@ -38,8 +34,7 @@ fn ticks_of(from: Option<&str>, to: Option<&str>) -> Option<Window>
 
 /// Returns the form of a report with this name, or `None` if there is none.
 fn form_of(name: &str) -> Option<Form>
-    ensures { MatchOption result ((form : Form) → ¬ (name.now ≡ form_name form)) (λ form. name.now
-        ≡ form_name form) }
+    ensures { Finds result (λ form. name.now ≡ form_name form) }
 {
     match name {
         "report" => Some(Form::Report),
@@ -50,9 +45,7 @@ fn form_of(name: &str) -> Option<Form>
 
 /// Returns the drawing with this name, or `None` if there is none.
 fn drawing_of(form: Option<&str>) -> Option<Drawing>
-    ensures { MatchOption result ((d : Drawing)
-        → ¬ (text_of form.entry ≡ Some (drawing_name d))) (λ d. text_of form.entry
-        ≡ Some (drawing_name d)) }
+    ensures { Finds result (λ drawing. text_of form.entry ≡ Some (drawing_name drawing)) }
 {
     match form {
         Some("svg") => Some(Drawing::Svg),
@@ -65,9 +58,7 @@ fn drawing_of(form: Option<&str>) -> Option<Drawing>
 /// Returns the action of `simulate` for a form that shows no ticks, by the form's name. Without a name, this is the
 /// report as text. Returns `None` if no such form has this name.
 fn simulated_as(form: Option<&str>) -> Option<Action>
-    ensures { MatchOption result ((action : Wanted)
-        → ¬ AsksPlainly (codes "simulate") (text_of form.entry) action)
-        (AsksPlainly (codes "simulate") (text_of form.entry)) }
+    ensures { Finds result (AsksPlainly (codes "simulate") (text_of form.entry)) }
 {
     match form {
         None => Some(Action::ReportLoad(Form::Report)),
@@ -79,9 +70,7 @@ fn simulated_as(form: Option<&str>) -> Option<Action>
 /// Returns the action of `replay` for a form that shows no ticks, by the form's name. Without a name, this is the line
 /// for each step. Returns `None` if no such form has this name.
 fn replayed_as(form: Option<&str>) -> Option<Action>
-    ensures { MatchOption result ((action : Wanted)
-        → ¬ AsksPlainly (codes "replay") (text_of form.entry) action)
-        (AsksPlainly (codes "replay") (text_of form.entry)) }
+    ensures { Finds result (AsksPlainly (codes "replay") (text_of form.entry)) }
 {
     match form {
         None | Some("lines") => Some(Action::Run(Verb::Replay)),
@@ -91,9 +80,7 @@ fn replayed_as(form: Option<&str>) -> Option<Action>
 
 /// Returns the action of `simulate` with these options, or `None` if they ask for none.
 fn simulated_with(form: Option<&str>, from: Option<&str>, to: Option<&str>) -> Option<Action>
-    ensures { MatchOption result ((action : Wanted)
-        → ¬ AsksFor (codes "simulate") (said form.entry from.entry to.entry) action)
-        (AsksFor (codes "simulate") (said form.entry from.entry to.entry)) }
+    ensures { Finds result (AsksFor (codes "simulate") (said form.entry from.entry to.entry)) }
 {
     if let Some(drawing) = drawing_of(form) {
         let ticks = ticks_of(from, to)?;
@@ -107,9 +94,7 @@ fn simulated_with(form: Option<&str>, from: Option<&str>, to: Option<&str>) -> O
 
 /// Returns the action of `replay` with these options, or `None` if they ask for none.
 fn replayed_with(form: Option<&str>, from: Option<&str>, to: Option<&str>) -> Option<Action>
-    ensures { MatchOption result ((action : Wanted)
-        → ¬ AsksFor (codes "replay") (said form.entry from.entry to.entry) action)
-        (AsksFor (codes "replay") (said form.entry from.entry to.entry)) }
+    ensures { Finds result (AsksFor (codes "replay") (said form.entry from.entry to.entry)) }
 {
     if let Some(drawing) = drawing_of(form) {
         let ticks = ticks_of(from, to)?;
@@ -128,9 +113,7 @@ pub(crate) fn action_of(
     from: Option<&str>,
     to: Option<&str>,
 ) -> Option<Action>
-    ensures { MatchOption result ((action : Wanted)
-        → ¬ AsksFor name.now (said form.entry from.entry to.entry) action)
-        (AsksFor name.now (said form.entry from.entry to.entry)) }
+    ensures { Finds result (AsksFor name.now (said form.entry from.entry to.entry)) }
 {
     match name {
         "check" => Some(Action::Check),

@@ -1,6 +1,6 @@
 -- A server that a plan refuses, and entries that spell no reservation.
 use Rattle.std.proofs.Common.{◌≡◌, ℕ, ◌<◌, List, length, get_or, map, take, Option, Some, None, Ok, Err, refl, sym, ap, ◌∙◌}
-use Rattle.std.specs.Prelude.{slice_get, option_map, MatchOption}
+use Rattle.std.specs.Prelude.{slice_get, option_map, IfSome, MatchOption}
 use Rattle.std.proofs.lemmas.Option.{slice_get-get_or, slice_get-map}
 use Rattle.std.proofs.lemmas.List.{take-map}
 use Rattle.toml.specs.Data.{Data, Members}
@@ -28,10 +28,10 @@ none_spelled seen xs i x kind lt is fault rates all = spelled (slice_get rates i
 -- what is refused after the entries before is refused in the document, and what is not is not
 refused_in : (top : Members) (entries : List Data) (server : ℕ) (bound : Fraction) (asked : Rate) (o : Option Refused) → bound_at top ≡ Ok bound
     → option_map reservation_of (slice_get entries server) ≡ Some (Ok asked)
-    → MatchOption o (IsNotRefused bound (take server entries) asked)
-    (λ r. IsRefused bound (take server entries) asked r × (r.number ≡ server) × (r.plan.bound ≡ bound))
+    → MatchOption o (IsNotRefused bound (take server entries) asked) (IsRefused bound (take server entries) asked)
+    → IfSome o (λ r. (r.number ≡ server) × (r.plan.bound ≡ bound))
     → MatchOption o ((r : Refused) → ¬ (IsRefusedAt top entries server r)) (IsRefusedAt top entries server)
-refused_in top entries server bound asked None bound_is entry_is none = refused
+refused_in top entries server bound asked None bound_is entry_is none named = refused
   where
     refused : (r : Refused) → ¬ (IsRefusedAt top entries server r)
     refused r h =
@@ -41,24 +41,24 @@ refused_in top entries server bound asked None bound_is entry_is none = refused
         let free = not r.plan h.refusal.plan in
         let why = h.refusal.why in
         cc
-refused_in top entries server bound asked (Some r) bound_is entry_is h =
-    let b = sym h.2 in
-    let a = sym h.0.reservation in
+refused_in top entries server bound asked (Some r) bound_is entry_is h named =
+    let b = sym named.1 in
+    let a = sym h.reservation in
     record {
-      number = h.1;
+      number = named.0;
       bound = rw b at bound_is;
       entry = rw a at entry_is;
-      refusal = rw (b, a) at h.0;
+      refusal = rw (b, a) at h;
     }
 
 -- the same, of values that are seen as data
 pub refused_among : {X : Type 0} (seen : X → Data) (top : Members) (xs : List X) (server : ℕ) (x : X) (bound : Fraction) (asked : Rate) (o : Option Refused)
     → server < length xs → x ≡ get_or xs server x → bound_at top ≡ Ok bound → reservation_of (seen x) ≡ Ok asked
-    → MatchOption o (IsNotRefused bound (map seen (take server xs)) asked)
-    (λ r. IsRefused bound (map seen (take server xs)) asked r × (r.number ≡ server) × (r.plan.bound ≡ bound))
+    → MatchOption o (IsNotRefused bound (map seen (take server xs)) asked) (IsRefused bound (map seen (take server xs)) asked)
+    → IfSome o (λ r. (r.number ≡ server) × (r.plan.bound ≡ bound))
     → MatchOption o ((r : Refused) → ¬ (IsRefusedAt top (map seen xs) server r)) (IsRefusedAt top (map seen xs) server)
-refused_among seen top xs server x bound asked o lt is bound_is asked_is after =
-    refused_in top (map seen xs) server bound asked o bound_is entry (rw (take-map seen server xs) after)
+refused_among seen top xs server x bound asked o lt is bound_is asked_is after named =
+    refused_in top (map seen xs) server bound asked o bound_is entry (rw (take-map seen server xs) after) named
   where
     here : slice_get xs server ≡ Some x
     here = slice_get-get_or xs server x lt ∙ ap Some (sym is)

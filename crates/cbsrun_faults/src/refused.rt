@@ -66,10 +66,10 @@ fn refused_after(
     number: usize,
     reservation: Reservation,
 ) -> Option<Refused>
-    ensures { MatchOption result
-        (IsNotRefused bound (map view before.now) reservation)
-        (λ refused. IsRefused bound (map view before.now) reservation refused
-        × (refused.number ≡ number) × (refused.plan.bound ≡ bound)) }
+    ensures refused { MatchOption result (IsNotRefused bound (map view before.now) reservation)
+        (IsRefused bound (map view before.now) reservation) }
+    ensures named { IfSome result (λ refused. (refused.number ≡ number)
+        × (refused.plan.bound ≡ bound)) }
 {
     let mut plan = plan_of(bound, before)?;
     let Err(why) = plan.admit(reservation) else {

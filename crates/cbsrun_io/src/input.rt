@@ -1,6 +1,6 @@
 //! Readers that count their failed calls, and a call that reads all bytes.
 
-ghost use Rattle.std.specs.Prelude.{◌≡◌, ℕ, ◌+◌, ◌<◌, ◌≤◌, ◌^◌, ◌-◌, ◌↔◌, List, length, take, Option, IfOk, IfErr, OnErr, if◌then◌else◌};
+ghost use Rattle.std.specs.Prelude.{◌≡◌, ℕ, ◌+◌, ◌<◌, ◌≤◌, ◌^◌, ◌-◌, ◌↔◌, List, length, take, Option, IfOk, OnOk, IfErr, OnErr, if◌then◌else◌};
 ghost use Rattle.std.specs.Io.KnownBytes.{Consumes, IsAtEnd, Keeps};
 ghost use Rattle.cbsrun_io.specs.Counted.{Counted};
 ghost use Rattle.cbsrun_io.specs.Reads.{is_read_fault, read_error_number, read_error_name};
@@ -24,9 +24,9 @@ pub trait ByteInput {
     fn read(&mut self, room: &mut [u8]) -> io::Result<usize>
         requires { failed self.old < 2 ^ 64 - 1 }
         ensures took { IfOk result (λ n. n ≤ length room.new) }
-        ensures ok { IfOk result (λ n. Consumes (left self.old) (left self.new) (take n room.new)
-            × (n ≡ 0 → 0 < length room.new → IsAtEnd (left self.new))
-            × (failed self.new ≡ failed self.old)) }
+        ensures ok { IfOk result (λ n. Consumes (left self.old) (left self.new) (take n room.new)) }
+        ensures end { IfOk result (λ n. n ≡ 0 → 0 < length room.new → IsAtEnd (left self.new)) }
+        ensures counted { OnOk result (failed self.new ≡ failed self.old) }
         ensures err { OnErr result (Keeps (left self.old) (left self.new)
             × (failed self.new ≡ failed self.old + 1)) };
 }

@@ -1,6 +1,7 @@
 -- What the bytes of a load file spell: the load, or its first fault with the place of that fault.
-use Rattle.std.specs.Prelude.{ℕ, Bool, bytes_eq, codes, if◌then◌else◌, List, [], ◌∷◌, ◌++◌, Option, Some, None, Result, Ok, Err}
+use Rattle.std.specs.Prelude.{ℕ, Bool, bytes_eq, codes, if◌then◌else◌, List, [], ◌∷◌, ◌++◌, map, Option, Some, None, Result, Ok, Err, String, string_bytes}
 use Rattle.std.specs.List.{list_any}
+use Rattle.std.specs.declared.alloc.Global.{Global}
 use Rattle.toml.specs.Data.{Data, Members}
 use Rattle.cbs_rate.specs.Plan.{admit_refusal}
 use Rattle.cbs_rate.specs.declared.error.AdmitError.{AdmitError}
@@ -24,6 +25,10 @@ is_load = has_key (codes "load")
 pub record Named : Type 0 where
   pub names : List (List ℕ)
   pub setup : ModedPlan
+
+-- the servers so far, as the code holds them
+abbrev pub named_view : List (String Global) → ModedPlan → Named
+named_view names setup = record { names = map string_bytes names; setup = setup }
 
 -- the servers, unless the plan refused the last one
 abbrev pub unless_refused : Named → Option AdmitError → Result Named FileKind
@@ -60,6 +65,4 @@ load_in table = do
 
 -- the load that the bytes spell
 abbrev pub load : List ℕ → Result LoadFile FileFault
-load bytes = do
-  table ← at Top (document bytes)
-  load_in table
+load bytes = at Top (document bytes) >>= load_in

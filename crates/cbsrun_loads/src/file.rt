@@ -11,7 +11,7 @@ ghost use Rattle.cbsrun_tables.specs.Fields.{Gives, each_from};
 ghost use Rattle.cbsrun_tables.specs.Bounds.{IsBounded, result_of};
 ghost use Rattle.cbsrun_loads.specs.Loads.{IsSource};
 ghost use Rattle.cbsrun_loads.specs.Sources.{source_entry};
-ghost use Rattle.cbsrun_loads.specs.Spelling.{admitted_entry, load, load_in};
+ghost use Rattle.cbsrun_loads.specs.Spelling.{admitted_entry, load, load_in, named_view};
 
 use crate::load::Load;
 use crate::server::{is_taken, server_entry};
@@ -33,14 +33,8 @@ fn admit_entry(
     entry: &Value,
 ) -> Result<(), FileKind>
     requires { length names.old.items ≡ length setup.old.plan.rates }
-    ensures servers { Gives OutOfMemory (λ _. record {
-      names = map string_bytes names.new.items;
-      setup = setup.new;
-    }) result
-        (admitted_entry (record {
-          names = map string_bytes names.old.items;
-          setup = setup.old;
-        }) (view entry.now)) }
+    ensures servers { Gives OutOfMemory (λ _. named_view names.new.items setup.new) result
+        (admitted_entry (named_view names.old.items setup.old) (view entry.now)) }
     ensures named { OnOk result (length names.new.items ≡ length setup.new.plan.rates) }
 {
     let server = match server_entry(entry) {
@@ -64,14 +58,8 @@ fn servers_of(
     bound: Bound,
     entries: &[Value],
 ) -> Result<(Vec<String>, Setup), FileFault>
-    ensures servers { Gives no_memory (λ s. record {
-      names = map string_bytes s.0.items;
-      setup = s.1;
-    }) result
-        (taken_in admitted_entry 0 (record {
-          names = [];
-          setup = no_servers bound;
-        }) (map view entries.now)) }
+    ensures servers { Gives no_memory (λ s. named_view s.0.items s.1) result
+        (taken_in admitted_entry 0 (named_view [] (no_servers bound)) (map view entries.now)) }
     ensures named { IfOk result (λ s. length s.0.items ≡ length s.1.plan.rates) }
 {
     let mut names = Vec::new(alloc);
@@ -95,8 +83,8 @@ fn sources_of(
     requires few { length names.now ≤ most_servers }
     requires named { length names.now ≡ length plan.now.rates }
     ensures sources { Gives no_memory (λ v. v.items) result
-        (each_from 0 (λ i entry. at (AtSource i) (source_entry (map string_bytes names.now)
-        plan.now.rates entry)) (map view entries.now)) }
+        (each_from 0 (λ i e. at (AtSource i) (source_entry (map string_bytes names.now)
+        plan.now.rates e)) (map view entries.now)) }
     ensures lawful { IfOk result (λ v. All (IsSource (length names.now)) v.items) }
     ensures count { IfOk result (λ v. length v.items ≡ length entries.now) }
 {

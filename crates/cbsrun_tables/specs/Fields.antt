@@ -1,6 +1,7 @@
 -- The tests of one table, in their order. The result of a test is a value, or the kind of fault.
 use Rattle.std.specs.Prelude.{◌≡◌, ℕ, ℤ, pos, negsuc, Bool, true, ◌&&◌, ◌+◌, ◌⊎◌, length, nat_le, nat_lt, if◌then◌else◌, List, [], ◌∷◌, ◌++◌, bytes_eq}
 use Rattle.std.specs.Prelude.{Option, Some, None, is_some, Result, Ok, Err}
+use Rattle.std.specs.Borrow.{Bor}
 use Rattle.std.specs.List.{list_any, list_all}
 use Rattle.toml.specs.Data.{Data, as_integer, string, integer as an_integer, array, table, Items, no_items, item, Members, no_members, member, get_member}
 use Rattle.cbsrun_tables.specs.declared.fault.FileKind.{FileKind}
@@ -16,6 +17,10 @@ abbrev pub ◌>>=◌ : {E A B : Type 0} → Result A E → (A → Result B E) �
 abbrev pub seen : {E A B : Type 0} → (A → B) → Result A E → Result B E
 seen view (Ok x) = Ok (view x)
 seen view (Err e) = Err e
+
+-- the key is one of the list
+abbrev pub is_one_of : List (Bor (List ℕ)) → List ℕ → Bool
+is_one_of keys key = list_any (λ k. bytes_eq k.now key) keys
 
 -- every key of the table is in the list
 abbrev pub has_only : List (List ℕ) → Members → Bool

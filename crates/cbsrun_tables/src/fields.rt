@@ -1,11 +1,11 @@
 //! The tests of one table.
 
-ghost use Rattle.std.specs.Prelude.{◌≡◌, Ok, Err, Some, None, map, option_map, IfSome, ◌≤◌, ◌<◌, IfOk, length, is_some, ◌||◌, bytes_eq, string_bytes};
-ghost use Rattle.std.specs.List.{list_any, list_all};
+ghost use Rattle.std.specs.Prelude.{◌≡◌, Ok, Err, Some, None, map, option_map, IfSome, ◌≤◌, ◌<◌, IfOk, length, is_some, ◌||◌, string_bytes};
+ghost use Rattle.std.specs.List.{list_all};
 ghost use Rattle.std.specs.BTreeMap.{keys as map_keys};
 ghost use Rattle.toml.specs.Data.{as_integer, get_member};
 ghost use Rattle.toml.specs.View.{view, table_view};
-ghost use Rattle.cbsrun_tables.specs.Fields.{seen, only_keys, with_keys, table_with, present, integer, text, items, members, integer_at, text_at, items_at, pair_at, optional_integer_at, natural, within, below, all_integers, pair, number, sized, of_some, each, Gives};
+ghost use Rattle.cbsrun_tables.specs.Fields.{seen, is_one_of, only_keys, with_keys, table_with, present, integer, text, items, members, integer_at, text_at, items_at, pair_at, optional_integer_at, natural, within, below, all_integers, pair, number, sized, of_some, each, Gives};
 ghost use Rattle.cbs_rate.specs.Limits.{greatest_number};
 
 use crate::fault::FileKind;
@@ -112,14 +112,13 @@ pub fn within(low: u64, high: u64, n: i64) -> Result<u64, FileKind>
 }
 
 fn is_listed(keys: &[&str], key: &str) -> bool
-    ensures { result ≡ list_any (λ l. bytes_eq l.now key.now) keys.now }
+    ensures { result ≡ is_one_of keys.now key.now }
 {
     keys.iter().any(|listed| *listed == key)
 }
 
 fn are_listed(table: &Table, keys: &[&str]) -> bool
-    ensures { result ≡ list_all (λ k. list_any (λ l. bytes_eq l.now (string_bytes k)) keys.now)
-        (map_keys table.now) }
+    ensures { result ≡ list_all (λ k. is_one_of keys.now (string_bytes k)) (map_keys table.now) }
 {
     table.keys().all(|key| is_listed(keys, key.as_str()))
 }
@@ -149,17 +148,14 @@ fn has_all(table: &Table, keys: &[&str]) -> bool
 }
 
 fn is_among(required: &[&str], optional: &[&str], key: &str) -> bool
-    ensures { result ≡ (list_any (λ l. bytes_eq l.now key.now) required.now || list_any (λ l.
-        bytes_eq l.now key.now) optional.now) }
+    ensures { result ≡ (is_one_of required.now key.now || is_one_of optional.now key.now) }
 {
     is_listed(required, key) || is_listed(optional, key)
 }
 
 fn are_among(table: &Table, required: &[&str], optional: &[&str]) -> bool
-    ensures { result ≡ list_all (λ k. list_any (λ l.
-        bytes_eq l.now (string_bytes k)) required.now || list_any (λ l.
-        bytes_eq l.now (string_bytes k)) optional.now)
-        (map_keys table.now) }
+    ensures { result ≡ list_all (λ k. is_one_of required.now (string_bytes k)
+        || is_one_of optional.now (string_bytes k)) (map_keys table.now) }
 {
     table
         .keys()

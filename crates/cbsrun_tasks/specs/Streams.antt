@@ -33,17 +33,21 @@ abbrev pub Spells : Terms → StepsRead → List Data → Type 0
 Spells t r entries = (each_from 0 (λ i entry. at (AtStep i) (step_entry t.format t.servers entry)) entries ≡ outcome r.steps.items r.fault)
     × All (IsFileStep t.servers) r.steps.items
 
+-- the entry was taken as one more
+abbrev pub Takes : Terms → StepsRead → StepsRead → Data → Type 0
+Takes t old new entry = (entries : List Data) → Spells t old entries → Spells t new (entries ++ entry ∷ [])
+
 -- the entry at the start of a text was taken as one more, and `rest` is the text after it
 pub record TakesEntry (t : Terms) (old new : StepsRead) (text rest : List ℕ) : Type 0 where
   pub entry : Data
   pub read : val 79 text ≡ Some (entry, rest)
-  pub took : (entries : List Data) → Spells t old entries → Spells t new (entries ++ entry ∷ [])
+  pub took : Takes t old new entry
 
 -- the lines at the start of a text are the pairs of one more table, which was taken, and `rest` is the text after it
 pub record TakesSection (t : Terms) (old new : StepsRead) (text rest : List ℕ) : Type 0 where
   pub pairs : Nodes
   pub placed : PutsLines text pairs rest
-  pub took : (entries : List Data) → Spells t old entries → Spells t new (entries ++ table (close pairs) ∷ [])
+  pub took : Takes t old new (table (close pairs))
 
 -- the items that the grammar gives spell what was read, or the grammar refuses
 abbrev pub ReadsSteps : Terms → Result (StepsRead × Bor (List ℕ)) Stop → Read Items → Type 0

@@ -117,9 +117,9 @@ fn read_whole(alloc: Global, bytes: &[u8]) -> Result<TaskFile, FileFault>
 /// read by other terms than the document sets.
 pub(crate) fn finish(alloc: Global, document: Document) -> Option<Result<TaskFile, FileFault>>
     requires { IfSome document.read (λ r. All (IsFileStep document.terms.servers) r.steps.items) }
-    ensures { (bytes : List ℕ) → is_utf8 bytes ≡ true
-        → IsDocument document document.read (parse_document bytes)
-        → IfSome result (λ r. Gives no_memory (λ f. f) r (file bytes)) }
+    ensures { (text : List ℕ) → is_utf8 text ≡ true
+        → IsDocument document document.read (parse_document text)
+        → IfSome result (λ r. Gives no_memory (λ f. f) r (file text)) }
 {
     let Document {
         mut table,

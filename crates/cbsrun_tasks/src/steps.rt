@@ -1,6 +1,6 @@
 //! The steps of a task file, read entry by entry. Each entry is freed after its step was taken.
 
-ghost use Rattle.std.specs.Prelude.{◌≡◌, ◌<◌, ◌≤◌, ℕ, codes, length, List, ◌++◌, ◌∷◌, [], None, Ok, IfOk, OnOk, IfErr};
+ghost use Rattle.std.specs.Prelude.{◌≡◌, ◌<◌, ◌≤◌, ℕ, codes, length, [], None, Ok, IfOk, OnOk, IfErr};
 ghost use Rattle.toml.specs.Data.{Data, no_items};
 ghost use Rattle.toml.specs.Parse as spec;
 ghost use Rattle.toml.specs.Tables.{Nodes, no_nodes, Document};
@@ -8,7 +8,7 @@ ghost use Rattle.toml.specs.View.{view};
 ghost use Rattle.cbsrun_toml.specs.Reading.{IsPlace, Shortens, growing};
 ghost use Rattle.cbsrun_toml_tokens.specs.declared.stop.Stop.TheVariants.{NotToml, OutOfMemory};
 ghost use Rattle.cbsrun_tasks.specs.Entries.{step_entry};
-ghost use Rattle.cbsrun_tasks.specs.Streams.{Spells, TakesEntry, TakesSection, ReadsSteps, ReadsStepTables};
+ghost use Rattle.cbsrun_tasks.specs.Streams.{Spells, Takes, TakesEntry, TakesSection, ReadsSteps, ReadsStepTables};
 ghost use Rattle.cbsrun_tasks.specs.TaskFiles.{IsFileStep};
 ghost use Rattle.cbsrun_tasks.specs.declared.terms.Terms.{Terms};
 
@@ -43,9 +43,9 @@ impl StepsRead {
 
     /// Takes one more step, unless a fault was found before it.
     fn keep(&mut self, step: Step<FileJob>) -> Result<(), Stop>
-        ensures kept { OnOk result ((terms : Terms) (entries : List Data) (entry : Data)
-            → step_entry terms.format terms.servers entry ≡ Ok step → IsFileStep terms.servers step
-            → Spells terms self.old entries → Spells terms self.new (entries ++ entry ∷ [])) }
+        ensures kept { OnOk result ((t : Terms) (entry : Data)
+            → step_entry t.format t.servers entry ≡ Ok step → IsFileStep t.servers step
+            → Takes t self.old self.new entry) }
         ensures memory { IfErr result (λ e. e ≡ OutOfMemory) }
     {
         if self.fault.is_some() {
@@ -59,8 +59,7 @@ impl StepsRead {
 
     /// Takes one more entry.
     fn take(&mut self, alloc: Global, terms: Terms, entry: &Value) -> Result<(), Stop>
-        ensures took { OnOk result ((entries : List Data) → Spells terms self.old entries
-            → Spells terms self.new (entries ++ view entry.now ∷ [])) }
+        ensures took { OnOk result (Takes terms self.old self.new (view entry.now)) }
         ensures memory { IfErr result (λ e. e ≡ OutOfMemory) }
     {
         match step_entry(alloc, terms.format, terms.servers, entry) {
@@ -122,8 +121,7 @@ fn read_section<'s>(
 
 /// Takes one more entry, and frees it.
 fn take(found: &mut StepsRead, alloc: Global, terms: Terms, entry: Value) -> Result<(), Stop>
-    ensures took { OnOk result ((entries : List Data) → Spells terms found.old entries
-        → Spells terms found.new (entries ++ view entry ∷ [])) }
+    ensures took { OnOk result (Takes terms found.old found.new (view entry)) }
     ensures memory { IfErr result (λ e. e ≡ OutOfMemory) }
 {
     found.take(alloc, terms, &entry)

@@ -1,10 +1,11 @@
 //! The document of a task file, read line by line. Its steps are read apart, so the document is never whole in memory.
 
-ghost use Rattle.std.specs.Prelude.{◌≡◌, ◌<◌, ◌≤◌, ℕ, true, codes, length, List, [], IfOk, IfSome, All, option_map};
+ghost use Rattle.std.specs.Prelude.{◌≡◌, ◌<◌, ℕ, true, codes, length, [], IfOk, IfSome, All};
 ghost use Rattle.toml.specs.Parse as spec;
-ghost use Rattle.toml.specs.Tables.{Nodes, close};
+ghost use Rattle.toml.specs.Tables.{close, Document as Lines};
 ghost use Rattle.toml.specs.View.{table_view};
 ghost use Rattle.toml_parser.specs.Reading.{key_view};
+ghost use Rattle.cbsrun_toml.specs.Reading.{closed};
 ghost use Rattle.cbsrun_tasks.specs.Streams.{ReadsDocument};
 ghost use Rattle.cbsrun_tasks.specs.TaskFiles.{IsFileStep};
 
@@ -35,9 +36,8 @@ fn is_step(key: &Key) -> bool
 
 /// Returns the document of a table whose other lines are arrays of tables.
 fn read_tables(alloc: Global, room: &mut Room, table: Table, s: &str) -> Result<Document, Stop>
-    ensures value { (n : ℕ) (root : Nodes) (path : List (List ℕ)) → close root ≡ table_view table
-        → length s.now < n
-        → ReadsDocument result (option_map (λ doc. close doc.0) (spec.lines n (root, path) s.now)) }
+    ensures value { (n : ℕ) (doc : Lines) → close doc.0 ≡ table_view table → length s.now < n
+        → ReadsDocument result (closed (spec.lines n doc s.now)) }
     ensures named { IfOk result (λ d. IfSome d.read (λ r.
         All (IsFileStep d.terms.servers) r.steps.items)) }
 {

@@ -6,7 +6,7 @@ pub returns-then-n-len-clause-refused : goal.returns-then-n-len-clause-refused
 returns-then-n-len-clause-refused g c =
     let more = take c.in-Ok.n c.read.new.room in (
       c.loop-n.bytes.items ++ more,
-      Consumes-then _ _ _ _ _ c.loop-n.invariant.so_far c.in-Ok.ensures.ok.0,
+      Consumes-then _ _ _ _ _ c.loop-n.invariant.so_far c.in-Ok.ensures.ok,
       (λ _. omega (arith, length-append c.loop-n.bytes.items more, length-take c.in-Ok.n c.read.new.room, c.in-Ok.ensures.took), λ _. refl),
     )
 
@@ -14,7 +14,7 @@ pub returns-then-is_err-clause-refused : goal.returns-then-is_err-clause-refused
 returns-then-is_err-clause-refused g c =
     let more = take c.in-Ok.n c.read.new.room in (
       c.loop-n.bytes.items ++ more,
-      Consumes-then _ _ _ _ _ c.loop-n.invariant.so_far c.in-Ok.ensures.ok.0,
+      Consumes-then _ _ _ _ _ c.loop-n.invariant.so_far c.in-Ok.ensures.ok,
       (λ e. absurd cc, λ lt. absurd (omega (arith, length-append c.loop-n.bytes.items more, length-take c.in-Ok.n c.read.new.room, c.in-Ok.ensures.took))),
     )
 

@@ -8,5 +8,5 @@ returns-in-Some-clause-read c =
     record {
       entry = table (close spelled.pairs);
       read = spelled.read;
-      took = λ entries spells. c.in_ok-keep.ensures.kept c.args.terms entries (table (close spelled.pairs)) spelled.spells spelled.named spells;
+      took = c.in_ok-keep.ensures.kept c.args.terms (table (close spelled.pairs)) spelled.spells spelled.named;
     }

@@ -14,7 +14,7 @@ returns-in-Some-clause-read c =
     record {
       pairs = spelled.pairs;
       placed = spelled.read;
-      took = λ entries spells. c.in_ok-keep.ensures.kept c.args.terms entries (table (close spelled.pairs)) spelled.spells spelled.named spells;
+      took = c.in_ok-keep.ensures.kept c.args.terms (table (close spelled.pairs)) spelled.spells spelled.named;
     }
 
 pub returns-clause-read : goal.returns-clause-read

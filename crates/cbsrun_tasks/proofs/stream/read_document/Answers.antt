@@ -224,4 +224,4 @@ returns-then-first-eq91-clause-value c =
     let m = l.invariant.2 in
     let room = l.invariant.3 in
     let loop = l.invariant.4 in
-    rw loop (c.read_tables.ensures.value m (nodes_of (table_view l.table)) [] (close-nodes_of (table_view l.table)) room)
+    rw loop (c.read_tables.ensures.value m (nodes_of (table_view l.table), []) (close-nodes_of (table_view l.table)) room)

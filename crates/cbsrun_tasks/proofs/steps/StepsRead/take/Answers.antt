@@ -7,7 +7,7 @@ use Rattle.cbsrun_tasks.proofs.steps.StepsRead.take.Goals as goal
 
 pub returns-in_ok-keep-in-Ok-clause-took : goal.returns-in_ok-keep-in-Ok-clause-took
 returns-in_ok-keep-in-Ok-clause-took c ds h =
-    c.in_ok-keep-in-Ok.ensures.kept c.args.terms ds (view c.args.entry.now) c.in-Ok.ensures.step c.in-Ok.ensures.named h
+    c.in_ok-keep-in-Ok.ensures.kept c.args.terms (view c.args.entry.now) c.in-Ok.ensures.step c.in-Ok.ensures.named ds h
 
 pub returns-then-is_none-clause-took : goal.returns-then-is_none-clause-took
 returns-then-is_none-clause-took c ds h =
