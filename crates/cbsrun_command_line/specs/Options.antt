@@ -42,18 +42,10 @@ abbrev pub IsTick : Option Text → ℕ → ℕ → Type 0
 IsTick None otherwise n = n ≡ otherwise
 IsTick (Some text) otherwise n = Spells text n
 
--- the tick after the last one to show, if the option is not there. As many ticks as possible are shown at a time,
--- within 2^64
-abbrev pub end_after : ℕ → ℕ
-end_after from = min (from + 20000) 18446744073709551615
-
--- the ticks that are asked for. If the option is not there, the first one is 0
+-- The ticks that are asked for. If an option is not there, the first tick is 0, or as many ticks as possible are shown
+-- at a time, within 2^64.
 abbrev pub AsksTicks : Option Text → Option Text → Window → Type 0
-AsksTicks from to w = IsTick from 0 w.from × IsTick to (end_after w.from) w.to
-
--- no option gives a tick
-abbrev pub SaysNoTicks : Said → Type 0
-SaysNoTicks s = (s.from ≡ None) × (s.to ≡ None)
+AsksTicks from to w = IsTick from 0 w.from × IsTick to (min (w.from + 20000) 18446744073709551615) w.to
 
 -- Which form without ticks an action has. For simulate that is a report, as text if no form is named, or the lines by
 -- their name. For replay that is the lines, by their name or if no form is named, or a report by its name.
@@ -70,10 +62,7 @@ AsksForm s (action.DrawLoad drawing ticks) = (s.form ≡ Some (drawing_name draw
 AsksForm s (action.DrawTasks drawing ticks) = (s.form ≡ Some (drawing_name drawing)) × AsksTicks s.from s.to ticks
 AsksForm s (action.Run Serve) = ⊤
 AsksForm s action.Check = ⊤
-AsksForm s (action.Run Replay) = AsksPlain s.form (action.Run Replay) × SaysNoTicks s
-AsksForm s (action.ReportLoad form) = AsksPlain s.form (action.ReportLoad form) × SaysNoTicks s
-AsksForm s action.WriteLoadLines = AsksPlain s.form action.WriteLoadLines × SaysNoTicks s
-AsksForm s (action.ReportTasks form) = AsksPlain s.form (action.ReportTasks form) × SaysNoTicks s
+AsksForm s a = AsksPlain s.form a × (s.from ≡ None) × (s.to ≡ None)
 
 -- the verb, with a form that shows no ticks, asks for the action
 abbrev pub AsksPlainly : Text → Option Text → Action → Type 0

@@ -5,10 +5,8 @@ use Rattle.std.specs.declared.alloc.AllocError.{AllocError}
 use Rattle.toml.specs.Data.{Members}
 use Rattle.toml.specs.Parse.{parse_document}
 use Rattle.cbsrun_tables.specs.declared.fault.FileFault.{FileFault}
-use Rattle.cbsrun_tables.specs.declared.fault.FileKind.TheVariants.{NotAdmitted}
-use Rattle.cbsrun_tables.specs.declared.fault.Place.TheVariants.{Server}
 use Rattle.cbsrun_faults.specs.Documents.{servers_of}
-use Rattle.cbsrun_fault_texts.specs.Refusals.{AppendsRefusal, IsNotRefusedAt, IsServerLine, TellsRefusal, ExplainsRefusal}
+use Rattle.cbsrun_fault_texts.specs.Refusals.{AppendsRefusal, AppendsWhy, IsNotRefusedAt, IsServerLine, TellsRefusal, ExplainsRefusal}
 use Rattle.cbsrun_fault_texts.specs.declared.page.Page.{Page}
 
 -- the top table that was read
@@ -17,12 +15,11 @@ same_top a b e = cc
 
 -- what was appended to an empty page is the text
 pub explained : (file bytes : List ℕ) (fault : FileFault) (old new : Page) (made : Result (String Global) AllocError) → string_bytes old.text ≡ []
-    → ((top : Members) (server : ℕ) → IsUtf8 bytes → parse_document bytes ≡ Some top → fault.kind ≡ NotAdmitted → fault.place ≡ Server server
-    → AppendsRefusal (IsServerLine file top server) top (servers_of top) server old new)
+    → ((top : Members) → IsUtf8 bytes → parse_document bytes ≡ Some top → AppendsWhy file top fault old new)
     → IfOk made (λ text. (new.failed ≡ false) × (text ≡ new.text)) → IfOk made (λ text. ExplainsRefusal file bytes fault (string_bytes text))
 explained file bytes fault old new (Err e) empty appended finished = tt
 explained file bytes fault old new (Ok text) empty appended finished =
-    λ top server utf8 read kind place. by top server (appended top server utf8 read kind place)
+    λ top server utf8 read kind place. by top server (appended top utf8 read server kind place)
   where
     by : (top : Members) (server : ℕ) → AppendsRefusal (IsServerLine file top server) top (servers_of top) server old new
         → IsNotRefusedAt top (servers_of top) server ⊎ TellsRefusal (IsServerLine file top server) top (servers_of top) server (string_bytes text)

@@ -38,13 +38,9 @@ marked_line gutter line from count =
 abbrev pub words_of : List ℕ → List (List ℕ)
 words_of text = slice_split (λ b. eqb b 32) text
 
--- what stands between two words: a new line that is indented, or a blank
-abbrev pub gap : ℕ → Bool → List ℕ
-gap indent breaks = if breaks then codes "\n" ++ times indent (codes " ") else codes " "
-
--- a word with what stands before it
+-- a word with what stands before it: a new line that is indented, or a blank
 abbrev pub spaced : ℕ → Bool × List ℕ → List ℕ
-spaced indent (breaks, word) = gap indent breaks ++ word
+spaced indent (breaks, word) = (if breaks then codes "\n" ++ times indent (codes " ") else codes " ") ++ word
 
 -- These words, each but the first after a blank or a new line. `rest` has the others, each with whether it begins a
 -- line.
@@ -59,7 +55,3 @@ pub record IsNote (margin : ℕ) (kind text note : List ℕ) : Type 0 where
   pub body : List ℕ
   pub laid : IsLaid (margin + length kind + 4) (words_of text) body
   pub bytes : note ≡ times margin (codes " ") ++ codes "= " ++ kind ++ codes ": " ++ body ++ codes "\n"
-
--- a note with the words of this text was appended, unless the page has failed by then
-abbrev pub AppendsNote : ℕ → List ℕ → Page → Page → List ℕ → Type 0
-AppendsNote margin kind old new text = AppendsA (IsNote margin kind text) old new

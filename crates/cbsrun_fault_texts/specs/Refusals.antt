@@ -93,6 +93,11 @@ AppendsRefusal IsPlace top entries server old new =
 abbrev pub IsServerLine : List ℕ → Members → ℕ → List ℕ → Type 0
 IsServerLine file top server = IsPlaceLine file (Server server) (server_label top server)
 
+-- if the fault is that a server is not admitted, so it is of that server
+abbrev pub AppendsWhy : List ℕ → Members → FileFault → Page → Page → Type 0
+AppendsWhy file top fault old new =
+    (server : ℕ) → fault.kind ≡ NotAdmitted → fault.place ≡ Server server → AppendsRefusal (IsServerLine file top server) top (servers_of top) server old new
+
 -- If the bytes spell a document and its fault is that a server is not admitted, the text tells why. Or the plan of the
 -- servers before does not refuse it
 abbrev pub ExplainsRefusal : List ℕ → List ℕ → FileFault → List ℕ → Type 0

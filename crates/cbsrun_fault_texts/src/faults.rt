@@ -3,10 +3,8 @@
 ghost use Rattle.std.specs.Prelude.{◌≡◌, ℕ, List, IfOk, Some, IsUtf8, string_bytes};
 ghost use Rattle.toml.specs.Data.{Members};
 ghost use Rattle.toml.specs.Parse.{parse_document};
-ghost use Rattle.cbsrun_tables.specs.declared.fault.FileKind.TheVariants.{NotAdmitted};
-ghost use Rattle.cbsrun_tables.specs.declared.fault.Place.TheVariants.{Server};
-ghost use Rattle.cbsrun_faults.specs.Documents.{IsDocument, servers_of};
-ghost use Rattle.cbsrun_fault_texts.specs.Refusals.{AppendsRefusal, IsServerLine, ExplainsRefusal};
+ghost use Rattle.cbsrun_faults.specs.Documents.{IsDocument};
+ghost use Rattle.cbsrun_fault_texts.specs.Refusals.{AppendsWhy, ExplainsRefusal};
 
 use crate::limits::append_not_admitted;
 use crate::not_toml::append_not_toml;
@@ -109,49 +107,35 @@ fn append_finding(page: &mut Page, spot: &Spot<'_>, finding: Finding<'_>) {
     }
 }
 
-/// Appends why the plan of a document does not take the server with this number.
-fn append_refusal(page: &mut Page, document: Document<'_>, number: u64)
-    ensures { (file : List ℕ) (top : Members) → IsDocument file top document.entry
-        → AppendsRefusal (IsServerLine file top number) top (servers_of top) number page.old
-        page.new }
-{
-    match spot_at(document, Place::Server(number)) {
-        Some(spot) => append_not_admitted(page, &spot, number),
-        None => page.push_kind(FileKind::NotAdmitted),
-    }
-}
-
-/// Appends the explanation of a fault in a table of a document.
-fn append_table_fault(page: &mut Page, document: Document<'_>, fault: FileFault) {
-    let Some(spot) = spot_at(document, fault.place) else {
-        return page.push_kind(fault.kind);
-    };
-    match find(fault.kind, &spot) {
-        Some(finding) => append_finding(page, &spot, finding),
-        None if fault.kind == FileKind::MissingKey => append_other_kind(page, &spot),
-        None => page.push_kind(fault.kind),
+/// Appends the explanation of a fault in the table of a spot.
+fn append_table_fault(page: &mut Page, spot: &Spot<'_>, kind: FileKind) {
+    match find(kind, spot) {
+        Some(finding) => append_finding(page, spot, finding),
+        None if kind == FileKind::MissingKey => append_other_kind(page, spot),
+        None => page.push_kind(kind),
     }
 }
 
 /// Appends the explanation of a fault in a document.
 fn append_fault(page: &mut Page, document: Document<'_>, fault: FileFault)
-    ensures { (file : List ℕ) (top : Members) (server : ℕ) → IsDocument file top document.entry
-        → fault.kind ≡ NotAdmitted → fault.place ≡ Server server
-        → AppendsRefusal (IsServerLine file top server) top (servers_of top) server page.old
-        page.new }
+    ensures { (file : List ℕ) (top : Members) → IsDocument file top document.entry
+        → AppendsWhy file top fault page.old page.new }
 {
-    match (fault.kind, fault.place) {
-        (FileKind::NotAdmitted, Place::Server(number)) => append_refusal(page, document, number),
-        _ => append_table_fault(page, document, fault),
+    match spot_at(document, fault.place) {
+        Some(spot) => match (fault.kind, fault.place) {
+            (FileKind::NotAdmitted, Place::Server(number)) => {
+                append_not_admitted(page, &spot, number)
+            }
+            _ => append_table_fault(page, &spot, fault.kind),
+        },
+        None => page.push_kind(fault.kind),
     }
 }
 
 /// Appends the explanation of the first fault of a file.
 fn append_explanation(page: &mut Page, name: &str, bytes: &[u8], fault: FileFault)
-    ensures { (top : Members) (server : ℕ) → IsUtf8 bytes.now → parse_document bytes.now ≡ Some top
-        → fault.kind ≡ NotAdmitted → fault.place ≡ Server server
-        → AppendsRefusal (IsServerLine name.now top server) top (servers_of top) server page.old
-        page.new }
+    ensures { (top : Members) → IsUtf8 bytes.now → parse_document bytes.now ≡ Some top
+        → AppendsWhy name.now top fault page.old page.new }
 {
     if fault.kind == FileKind::OutOfMemory {
         return page.push_kind(fault.kind);

@@ -81,9 +81,9 @@ fn append_refused(page: &mut Page, spot: &Spot<'_>, refused: &Refused)
 
 /// Appends why a plan does not take the server with this number.
 pub(crate) fn append_not_admitted(page: &mut Page, spot: &Spot<'_>, number: u64)
-    ensures { let top = table_view spot.now.document.top.now in
-        let entries = map view spot.now.document.servers.now in
-        AppendsRefusal (IsSpotLine spot.now) top entries number page.old page.new }
+    ensures { let read = spot.now.document in
+        AppendsRefusal (IsSpotLine spot.now) (table_view read.top.now) (map view read.servers.now)
+        number page.old page.new }
 {
     match refused_at(spot.document, number) {
         Some(refused) => append_refused(page, spot, &refused),

@@ -1,9 +1,9 @@
 //! A text that is put together, in lines as rustc and cargo lay them out.
 
-ghost use Rattle.std.specs.Prelude.{◌≡◌, ◌+◌, ◌++◌, ◌≤◌, ◌<◌, Bool, true, false, [], List, ℕ, codes, decimal, map, IfOk, MatchResult, IfSome, MatchOption, Some, None, string_bytes};
+ghost use Rattle.std.specs.Prelude.{◌≡◌, ◌+◌, ◌++◌, ◌≤◌, ◌<◌, Bool, true, false, [], codes, decimal, map, IfOk, MatchResult, IfSome, MatchOption, Some, None, string_bytes};
 ghost use Rattle.std.specs.List.{concat};
 ghost use Rattle.cbsrun_check_text.specs.Fractions.{fraction_text};
-ghost use Rattle.cbsrun_fault_texts.specs.Pages.{Appends, AppendsA, times, left_in, right_in, bar, marked_line, words_of, spaced, IsLaid, AppendsNote};
+ghost use Rattle.cbsrun_fault_texts.specs.Pages.{Appends, AppendsA, times, left_in, right_in, bar, marked_line, words_of, spaced, IsLaid, IsNote};
 ghost use Rattle.cbsrun_fault_texts.specs.Spots.{IsSpotLine};
 
 use cbs_rate::Ratio;
@@ -225,7 +225,7 @@ impl Page {
     pub(crate) fn push_note(&mut self, margin: usize, kind: &str, words: Result<String, AllocError>)
         requires { margin ≤ 80 }
         ensures { MatchResult words
-            (λ words. AppendsNote margin kind.now self.old self.new (string_bytes words))
+            (λ words. AppendsA (IsNote margin kind.now (string_bytes words)) self.old self.new)
             (λ _. self.new.failed ≡ true) }
     {
         let Some(words) = self.accept(words) else {
@@ -240,9 +240,7 @@ impl Page {
 
     /// Appends the words of a text, in lines of at most [`COLUMNS`] columns, each but the first after `indent` blanks.
     fn push_words(&mut self, indent: usize, text: &str)
-        ensures { self.new.failed ≡ false → (laid : List ℕ) × IsLaid indent (words_of text.now) laid
-            × (self.old.failed ≡ false) × (string_bytes self.new.text ≡ string_bytes self.old.text
-            ++ laid) }
+        ensures { AppendsA (IsLaid indent (words_of text.now)) self.old self.new }
     {
         let mut column = None;
         for word in text.split(' ') {

@@ -117,8 +117,8 @@ fn event_text(
     more: &[(&str, Scalar<'_>)],
     args: Value,
 ) -> Result<String, AllocError>
-    ensures { IfOk result (λ text. has_float (event_data first.now more.now (view args)) ≡ false
-        → string_bytes text ≡ compact_text (event_data first.now more.now (view args))) }
+    ensures { let event = event_data first.now more.now (view args) in
+        IfOk result (λ text. has_float event ≡ false → string_bytes text ≡ compact_text event) }
 {
     let mut members = Map::new(alloc);
     put_all(alloc, &mut members, first)?;

@@ -293,9 +293,9 @@ fn append_bars(
     chart: &ServerChart,
     counts: &[Counts],
 ) -> Result<(), AllocError>
-    ensures { OnOk result (string_bytes text.new ≡ string_bytes text.old
-        ++ bars_text place.now.axis place.now.layout window place.now.name.now place.now.mode
-        chart.now counts.now) }
+    ensures { let p = place.now in
+        OnOk result (string_bytes text.new ≡ string_bytes text.old
+        ++ bars_text p.axis p.layout window p.name.now p.mode chart.now counts.now) }
 {
     let axis = &place.axis;
     let height = place.layout.height;

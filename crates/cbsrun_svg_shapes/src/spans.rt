@@ -208,9 +208,9 @@ fn append_bar(
     number: u64,
     span: &Stretch,
 ) -> Result<(), AllocError>
-    ensures { OnOk result (string_bytes text.new ≡ string_bytes text.old
-        ++ bar_text place.now.axis place.now.layout place.now.mode place.now.name.now jobs.now
-        number span.now) }
+    ensures { let p = place.now in
+        OnOk result (string_bytes text.new ≡ string_bytes text.old
+        ++ bar_text p.axis p.layout p.mode p.name.now jobs.now number span.now) }
 {
     let shape = bar_shape(alloc, &place.axis, &place.layout, span)?;
     let title = bar_title(alloc, place.name, number, span, jobs)?;
