@@ -1,6 +1,6 @@
 -- Bars cover exactly the ticks of units.
-use Rattle.std.proofs.Common.{◌≡◌, ◌∙◌, ℕ, ◌<◌, ◌≤◌, Bool, true, false, ◌&&◌, ◌||◌, eqb, ltb, cond, List, []}
-use Rattle.std.proofs.Common.{◌∷◌, length, Option, Some, None, arith, refl, sym, ap, subst, inl, inr}
+use Rattle.std.proofs.Common.{◌≡◌, ◌∙◌, ℕ, ◌<◌, ◌≤◌, Bool, true, false, ◌&&◌, ◌||◌, eqb, ltb, cond, List, [], ◌∷◌, length, Option, Some, None, arith, refl, sym}
+use Rattle.std.proofs.Common.{ap, subst, inl, inr}
 use Rattle.std.specs.Prelude.{set, slice_get}
 use Rattle.std.proofs.lemmas.Bool.{cases_Bool}
 use Rattle.std.proofs.lemmas.Bool.Decides.{nat_tests}
@@ -12,12 +12,11 @@ use Rattle.cbsrun_events.specs.Events.{server_of, begun}
 use Rattle.cbsrun_events.specs.declared.seen.Event.{Event}
 use Rattle.cbsrun_events.specs.declared.seen.Event.TheVariants as event
 use Rattle.cbsrun_events.specs.declared.seen.Seen.{Seen}
-use Rattle.cbsrun_chart.specs.Charts.{IsChart, IsServerChart, Kept, idle_seen, kept_seen, kept_with, new_kept}
-use Rattle.cbsrun_chart.specs.Charts.{new_row, no_row, ran, rate_at, row_after, row_at, row_seen, runs_unit_of, took}
+use Rattle.cbsrun_chart.specs.Charts.{IsChart, IsServerChart, Kept, idle_seen, kept_seen, kept_with, new_kept, new_row, no_row, ran, rate_at, row_after, row_at}
+use Rattle.cbsrun_chart.specs.Charts.{row_seen, runs_unit_of, took, IsRowChart}
 use Rattle.cbsrun_chart.specs.Courses.{course_until}
-use Rattle.cbsrun_chart.specs.Deadlines.{deadlines_until}
+use Rattle.cbsrun_chart.specs.Marks.{deadlines_until}
 use Rattle.cbsrun_chart.specs.Jobs.{all_jobs}
-use Rattle.cbsrun_chart.specs.Rendered.{IsRowChart}
 use Rattle.cbsrun_chart.specs.Rows.{has_job, kind_of, last_of, spans_seen, spans_until, step_stretch, throttled_stretch, waiting_stretch}
 use Rattle.cbsrun_window.specs.Stretches.{Joined, all_of, is_covered, same_kind, shows, takes, with_stretch}
 use Rattle.cbsrun_chart.specs.declared.chart.Chart.{Chart}

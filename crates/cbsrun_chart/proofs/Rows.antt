@@ -3,8 +3,7 @@ use Rattle.std.proofs.Common.{◌≡◌, ◌∙◌, ℕ, zero, suc, ◌+◌, ◌
 use Rattle.std.specs.Prelude.{get_or, slice_get}
 use Rattle.std.proofs.lemmas.List.{map-append, take_more}
 use Rattle.cbs_rate.specs.Rate.{Rate}
-use Rattle.cbsrun_chart.specs.Charts.{RowSeen, new_row, row_at}
-use Rattle.cbsrun_chart.specs.Rendered.{IsRowChart}
+use Rattle.cbsrun_chart.specs.Charts.{RowSeen, new_row, row_at, IsRowChart}
 use Rattle.cbsrun_chart.specs.declared.chart.ServerChart.{ServerChart}
 use Rattle.cbsrun_window.specs.declared.window.Window.{Window}
 

@@ -1,6 +1,6 @@
 -- What is collected of all servers, and what a picture shows of them.
-use Rattle.std.specs.Prelude.{◌≡◌, ℕ, ◌<◌, ◌≤◌, Bool, false, ◌&&◌, eqb, leb, ltb, if◌then◌else◌, List, []}
-use Rattle.std.specs.Prelude.{◌∷◌, length, map, get_or, set, slice_get, is_none, Option, Some, None}
+use Rattle.std.specs.Prelude.{◌≡◌, ℕ, ◌<◌, ◌≤◌, Bool, false, ◌&&◌, eqb, leb, ltb, if◌then◌else◌, List, [], ◌∷◌, length, map, get_or, set, slice_get, is_none}
+use Rattle.std.specs.Prelude.{Option, Some, None}
 use Rattle.std.specs.List.{list_any}
 use Rattle.cbs_rate.specs.Rate.{Rate}
 use Rattle.cbsrun_figures.specs.Figures.{steps_of}
@@ -11,9 +11,8 @@ use Rattle.cbsrun_events.specs.declared.seen.Event.{Event}
 use Rattle.cbsrun_events.specs.declared.seen.Event.TheVariants as event
 use Rattle.cbsrun_events.specs.declared.seen.Seen.{Seen}
 use Rattle.cbsrun_chart.specs.Courses.{CourseSeen, course_after, course_until, course_seen, no_course}
-use Rattle.cbsrun_chart.specs.Deadlines.{deadlines_after, deadlines_until, deadlines_seen}
+use Rattle.cbsrun_chart.specs.Marks.{deadlines_after, deadlines_until, deadlines_seen, arrivals_after, arrivals_seen, refusals_after, refusals_seen}
 use Rattle.cbsrun_chart.specs.Jobs.{JobsSeen, jobs_after, jobs_seen, no_jobs, all_jobs, completions, late_stretch}
-use Rattle.cbsrun_chart.specs.Marks.{arrivals_after, arrivals_seen, refusals_after, refusals_seen}
 use Rattle.cbsrun_chart.specs.Rows.{idle_after, last_of, last_seen, refused_after, refused_seen, spans_after, spans_until, spans_seen}
 use Rattle.cbsrun_chart.specs.Ticks.{AreInTurn, is_kind, kind_at}
 use Rattle.cbsrun_window.specs.Stretches.{AreApart, Joined, all_of, is_covered, nothing_joined, takes}
@@ -23,6 +22,8 @@ use Rattle.cbsrun_window.specs.declared.stretch.Kind.{Kind}
 use Rattle.cbsrun_window.specs.declared.stretch.Kind.TheVariants as kind
 use Rattle.cbsrun_chart.specs.declared.waits.Last.{Last}
 use Rattle.cbsrun_window.specs.declared.window.Window.{Window}
+use Rattle.cbsrun_chart.specs.declared.jobs.ChartJob.{ChartJob}
+use Rattle.cbsrun_window.specs.declared.stretch.Stretch.{Stretch}
 
 -- what is collected of one server
 pub record RowSeen : Type 0 where
@@ -178,3 +179,20 @@ pub record IsChart (rates : List Rate) (end : ℕ) (seen : List Seen) (c : Chart
       → c.window.from ≤ t → t < c.window.to → t < end → (k : Kind) → is_covered k t server.spans.items ≡ is_kind k (kind_at t (steps_of s seen))
   -- neighbouring units of one job are one bar
   pub apart : (s : ℕ) (server : ServerChart) → slice_get c.servers.items s ≡ Some server → AreApart server.spans.items
+
+-- in a run that ends at this tick, the stretches cover a tick of the window exactly if a job is late in it
+abbrev pub LateCovered : Window → ℕ → List ChartJob → List Stretch → Type 0
+LateCovered w end jobs late =
+    (t : ℕ) → w.from ≤ t → t < w.to → is_covered kind.Late t late ≡ list_any (λ job. takes t (late_stretch end job)) jobs
+
+-- what a window shows of a server, from what was collected of it
+pub record IsRowChart (w : Window) (end : ℕ) (row : RowSeen) (c : ServerChart) : Type 0 where
+  pub spans : c.spans.items ≡ all_of (spans_until w row.last end row.spans)
+  pub refused : c.refused.items ≡ all_of row.refused
+  pub refusals : c.refusals ≡ row.refusals
+  pub arrivals : c.arrivals.items ≡ row.arrivals
+  pub jobs : c.jobs.items ≡ all_jobs w row.jobs
+  pub completions : c.completions.items ≡ completions w c.jobs.items
+  pub late : LateCovered w end c.jobs.items c.late.items
+  pub deadlines : c.deadlines.items ≡ deadlines_until w row.reservation row.last end row.deadlines
+  pub course : record { opening = c.opening; corners = c.corners.items } ≡ course_until w row.reservation row.last end row.course

@@ -6,7 +6,7 @@ use Rattle.cbsrun_events.specs.Events.{begun, ticks_of_run}
 use Rattle.cbsrun_events.specs.declared.seen.Event.{Event}
 use Rattle.cbsrun_events.specs.declared.seen.Event.TheVariants as event
 use Rattle.cbsrun_events.specs.declared.seen.Seen.{Seen}
-use Rattle.cbsrun_chart.specs.Deadlines.{is_renewed}
+use Rattle.cbsrun_chart.specs.Marks.{is_renewed}
 use Rattle.cbsrun_chart.specs.Rows.{last_of}
 use Rattle.cbsrun_chart.specs.declared.course.Corner.{Corner}
 use Rattle.cbsrun_chart.specs.declared.waits.Last.{Last}

@@ -1,7 +1,7 @@
 //! What a window shows of a run.
 
 ghost use Rattle.std.specs.Prelude.{◌≡◌, IfOk};
-ghost use Rattle.cbsrun_chart.specs.Rendered.{IsRowChart, LateCovered};
+ghost use Rattle.cbsrun_chart.specs.Charts.{IsRowChart, LateCovered};
 
 use crate::course::Corner;
 use crate::jobs::{ChartJob, completions_of};

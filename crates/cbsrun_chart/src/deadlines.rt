@@ -1,7 +1,7 @@
 //! The deadlines that a server gets.
 
 ghost use Rattle.std.specs.Prelude.{◌≡◌, ◌++◌, ◌∷◌, ◌≤◌, OnOk};
-ghost use Rattle.cbsrun_chart.specs.Deadlines.{deadline_at, deadlines_after, deadlines_until, is_renewed, renewed_deadline, with_deadline};
+ghost use Rattle.cbsrun_chart.specs.Marks.{deadline_at, deadlines_after, deadlines_until, is_renewed, renewed_deadline, with_deadline};
 
 use crate::waits::Last;
 use cbs_rate::Reservation;

@@ -4,7 +4,7 @@ use Rattle.std.proofs.lemmas.Bool.{leb-true}
 use Rattle.cbs_rate.specs.Plan.{Planned, IsPlan, total_share, all_periods, common_multiple}
 use Rattle.cbs_rate.proofs.Shares.{fits_common}
 use Rattle.cbsrun_check_text.specs.Checks.{IsSplit}
-use Rattle.cbsrun_sizing.specs.Shares.{reserved}
+use Rattle.cbsrun_sizing.specs.Budgets.{reserved}
 
 pub split_of : (plan : Planned) → IsPlan plan → IsSplit plan
 split_of plan ok =

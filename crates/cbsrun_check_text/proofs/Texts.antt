@@ -13,8 +13,7 @@ use Rattle.cbsrun_simulate.specs.declared.terms.SourceTerms.{SourceTerms}
 use Rattle.cbsrun_sizing.specs.ServerLoads.{no_load}
 use Rattle.cbsrun_sizing.specs.declared.server_load.ServerLoad.{ServerLoad}
 use Rattle.cbsrun_check_text.specs.Notes.{note_at, note_text}
-use Rattle.cbsrun_check_text.specs.Servers.{server_row, row_at}
-use Rattle.cbsrun_check_text.specs.Sources.{source_row, row_of}
+use Rattle.cbsrun_check_text.specs.Tables.{server_row, row_at, source_row, row_of}
 use Rattle.cbsrun_check_text.proofs.Rows.{flat_more}
 
 -- the row of a server, by its parts

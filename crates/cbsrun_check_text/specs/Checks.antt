@@ -1,20 +1,33 @@
 -- The text about a file with no fault.
-use Rattle.std.specs.Prelude.{◌≡◌, ℕ, ◌+◌, ◌*◌, eqb, if◌then◌else◌, List, ◌++◌, codes, decimal, length, map}
-use Rattle.std.specs.List.{range_with_len}
+use Rattle.std.specs.Prelude.{ℕ, Bool, eqb, ltb, if◌then◌else◌, List, [], ◌++◌, codes, decimal, ◌≡◌, ◌+◌, ◌*◌, length, map}
+use Rattle.std.specs.List.{list_any, range_with_len}
 use Rattle.cbsrun_loads.specs.Loads.{LoadFile}
+use Rattle.cbsrun_simulate.specs.declared.terms.SourceTerms.{SourceTerms}
+use Rattle.cbsrun_sizing.specs.Lateness.{greatest_delay, BoundsLateness}
 use Rattle.cbs_rate.specs.Plan.{Planned, common_multiple}
 use Rattle.cbs_rules.specs.declared.mode.Mode.{Mode}
-use Rattle.cbsrun_sizing.specs.Budgets.{AreGreatest}
-use Rattle.cbsrun_sizing.specs.Lateness.{greatest_delay, BoundsLateness}
+use Rattle.cbsrun_sizing.specs.Budgets.{AreGreatest, left_over, reserved}
 use Rattle.cbsrun_sizing.specs.ServerLoads.{AreServerLoads}
-use Rattle.cbsrun_sizing.specs.Shares.{left_over, reserved}
 use Rattle.cbsrun_sizing.specs.declared.server_load.ServerLoad.{ServerLoad}
 use Rattle.cbsrun_text.specs.Columns.{columns_text}
-use Rattle.cbsrun_check_text.specs.Fractions.{fraction_text}
-use Rattle.cbsrun_check_text.specs.Lateness.{lateness_text}
+use Rattle.cbsrun_check_text.specs.Cells.{fraction_text}
 use Rattle.cbsrun_check_text.specs.Notes.{notes_text, set_off}
-use Rattle.cbsrun_check_text.specs.Servers.{servers_table}
-use Rattle.cbsrun_check_text.specs.Sources.{sources_text}
+use Rattle.cbsrun_check_text.specs.Tables.{servers_table, sources_text}
+
+-- overruns can make servers late by at most this many ticks
+unfoldable pub late_by_text : ℕ → List ℕ
+late_by_text n =
+    if eqb n 0 then codes "Overruns make no server late.\n"
+    else if eqb n 1 then codes "Units that overrun make a server late by at most 1 tick.\n"
+    else codes "Units that overrun make a server late by at most " ++ decimal n ++ codes " ticks.\n"
+
+-- units of a source may overrun
+abbrev pub is_overrunning : List SourceTerms → Bool
+is_overrunning sources = list_any (λ t. ltb 0 t.overrun.greatest) sources
+
+-- an empty line, and how late servers can be, if units of a source may overrun
+abbrev pub lateness_text : LoadFile → List ℕ
+lateness_text f = if is_overrunning f.sources then codes "\n" ++ late_by_text (greatest_delay f) else []
 
 -- the first line: that the servers fit, what share of the time they have reserved, and what share is left under the
 -- bound

@@ -9,8 +9,8 @@ use Rattle.cbsrun_loads.specs.Loads.{most_sources}
 use Rattle.cbsrun_sizing.specs.ServerLoads.{no_load}
 use Rattle.cbsrun_sizing.specs.declared.asked.Asked.{Asked}
 use Rattle.cbsrun_sizing.specs.declared.server_load.ServerLoad.{ServerLoad}
-use Rattle.cbsrun_check_text.specs.Fractions.{fraction_text}
-use Rattle.cbsrun_check_text.specs.Servers.{name_at}
+use Rattle.cbsrun_check_text.specs.Cells.{fraction_text}
+use Rattle.cbsrun_check_text.specs.Tables.{name_at}
 
 -- the demand is within the limits of exact sums
 pub record IsSummed (a : Asked) : Type 0 where

@@ -1,7 +1,7 @@
 //! The text about how late overruns can make the servers of a load.
 
 ghost use Rattle.std.specs.Prelude.{◌≡◌, ◌++◌, OnOk, string_bytes};
-ghost use Rattle.cbsrun_check_text.specs.Lateness.{late_by_text, is_overrunning, lateness_text};
+ghost use Rattle.cbsrun_check_text.specs.Checks.{late_by_text, is_overrunning, lateness_text};
 
 use cbsrun_loads::Load;
 use cbsrun_simulate::SourceTerms;

@@ -2,7 +2,7 @@
 
 ghost use Rattle.std.specs.Prelude.{◌≡◌, ◌<◌, ◌++◌, length, map, IfOk, OnOk, string_bytes};
 ghost use Rattle.cbsrun_text.specs.Columns.{columns_text, rows_of};
-ghost use Rattle.cbsrun_check_text.specs.Servers.{server_row, row_at, servers_heading, total_row, servers_table};
+ghost use Rattle.cbsrun_check_text.specs.Tables.{server_row, row_at, servers_heading, total_row, servers_table};
 
 use crate::cells::Shown;
 use crate::fractions::Share;

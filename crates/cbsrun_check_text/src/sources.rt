@@ -4,7 +4,7 @@ ghost use Rattle.std.specs.Prelude.{◌≡◌, ◌++◌, ◌<◌, length, IfOk, 
 ghost use Rattle.cbsrun_text.specs.Columns.{plain, rows_of};
 ghost use Rattle.cbsrun_text.specs.Numbers.{number_text};
 ghost use Rattle.cbsrun_check_text.specs.Cells.{cell_of};
-ghost use Rattle.cbsrun_check_text.specs.Sources.{range_text, in_time_text, is_asking_too_much, source_row, row_of, sources_heading, sources_table, sources_text};
+ghost use Rattle.cbsrun_check_text.specs.Tables.{range_text, in_time_text, is_asking_too_much, source_row, row_of, sources_heading, sources_table, sources_text};
 
 use crate::cells::Shown;
 use crate::fractions::Share;

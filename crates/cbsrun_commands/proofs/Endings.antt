@@ -6,14 +6,13 @@ use Rattle.cbsrun_runs.specs.Runs.{IsPictureOf}
 use Rattle.cbsrun_runs.specs.Tasks.{clock_of_tasks, run_of_tasks}
 use Rattle.cbsrun_command_line.specs.declared.actions.Drawing.{Drawing}
 use Rattle.cbsrun_command_line.specs.declared.actions.Form.{Form}
-use Rattle.cbsrun_commands.specs.Reported.{IsRunText, IsTaskReportText}
+use Rattle.cbsrun_commands.specs.Outputs.{IsRunText, IsTaskReportText, IsDrawingOf}
 use Rattle.cbsrun_window.specs.declared.window.Window.{Window}
 use Rattle.cbsrun_lines.specs.Writers.{Writer, IsUntouched}
 use Rattle.cbsrun_lines.specs.declared.run_error.RunError.{RunError}
 use Rattle.cbsrun_lines.specs.declared.run_error.RunError.TheVariants.{OutOfMemory, WriteFault, ClockEnd, Stalled}
 use Rattle.cbsrun_commands.specs.Commands.{Command, Does, EndsAs, Tells, done, nothing_shown, refused, stopped}
-use Rattle.cbsrun_commands.specs.Pictured.{IsDrawingOf}
-use Rattle.cbsrun_commands.specs.Printing.{Prints, StopsPrinting}
+use Rattle.cbsrun_commands.specs.FaultLines.{Prints, StopsPrinting}
 use Rattle.cbsrun_commands.specs.declared.ending.Stopped.{Stopped}
 use Rattle.cbsrun_commands.specs.declared.ending.Stopped.TheVariants.{Unread, Ended, Run}
 

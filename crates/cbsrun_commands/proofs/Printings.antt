@@ -3,7 +3,7 @@ use Rattle.std.proofs.Common.{◌≡◌, List, ℕ, refl}
 use Rattle.cbsrun_lines.specs.Writers.{Writer, StopsWriting}
 use Rattle.cbsrun_lines.specs.declared.run_error.RunError.{RunError}
 use Rattle.cbsrun_lines.specs.declared.run_error.RunError.TheVariants.{OutOfMemory, WriteFault, ClockEnd, Stalled}
-use Rattle.cbsrun_commands.specs.Printing.{StopsPrinting}
+use Rattle.cbsrun_commands.specs.FaultLines.{StopsPrinting}
 
 -- what is left if writing stops is what is left if printing stops
 pub prints_short : (text : List ℕ) (short : Writer → Writer → Type 0) (error : RunError) (old new : Writer) → StopsWriting text short error old new

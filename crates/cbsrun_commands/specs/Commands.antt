@@ -4,8 +4,7 @@ use Rattle.cbsrun_window.specs.declared.shown.NothingShown.{NothingShown}
 use Rattle.cbsrun_tables.specs.Documents.{no_memory}
 use Rattle.cbsrun_tables.specs.declared.fault.FileFault.{FileFault}
 use Rattle.cbsrun_lines.specs.Writers.{Writer, IsUntouched, Writes, TriesToWrite}
-use Rattle.cbsrun_commands.specs.FaultLines.{run_line, nothing_shown_line}
-use Rattle.cbsrun_commands.specs.Printing.{Explains, StopsPrinting}
+use Rattle.cbsrun_commands.specs.FaultLines.{run_line, nothing_shown_line, Explains, StopsPrinting}
 use Rattle.cbsrun_lines.specs.declared.run_error.RunError.{RunError}
 use Rattle.cbsrun_commands.specs.declared.ending.Stopped.{Stopped}
 use Rattle.cbsrun_commands.specs.declared.ending.Stopped.TheVariants.{Unread, Ended, Run}

@@ -1,11 +1,13 @@
 -- The lines of faults.
-use Rattle.std.specs.Prelude.{ℕ, List, ◌++◌, codes, decimal}
+use Rattle.std.specs.Prelude.{ℕ, List, ◌++◌, codes, decimal, ◌≡◌, [], ◌∷◌, Result, Ok, Err}
 use Rattle.cbsrun_tables.specs.Faults.{file_kind_number, file_kind_name, place_text}
 use Rattle.cbsrun_io.specs.Reads.{read_error_number, read_error_name}
-use Rattle.cbsrun_lines.specs.Runs.{run_error_number, run_error_name}
+use Rattle.cbsrun_lines.specs.Writers.{run_error_number, run_error_name, Writer, IsUntouched, Writes, FailsToWrite, TriesToWrite}
 use Rattle.cbsrun_tables.specs.declared.fault.FileFault.{FileFault}
 use Rattle.cbsrun_io.specs.declared.input.ReadError.{ReadError}
 use Rattle.cbsrun_lines.specs.declared.run_error.RunError.{RunError}
+use Rattle.cbsrun_fault_texts.specs.Refusals.{ExplainsRefusal}
+use Rattle.cbsrun_lines.specs.declared.run_error.RunError.TheVariants.{OutOfMemory, WriteFault, ClockEnd, Stalled}
 
 -- the line of a read fault: its number and its name
 unfoldable pub read_line : ReadError → List ℕ
@@ -24,3 +26,27 @@ run_line e = codes "cbsrun: run fault " ++ (decimal (run_error_number e) ++ (cod
 unfoldable pub nothing_shown_line : ℕ → ℕ → List ℕ
 nothing_shown_line from end = codes "error: there is no tick to show from " ++
     (decimal from ++ (codes " on: the run ends at tick " ++ (decimal end ++ codes "\n")))
+
+-- what a command that prints a text left at an error. If out of memory, that is what `short` says. If a write failed, a
+-- prefix of the text is left. There is no other cause
+abbrev pub StopsPrinting : (List ℕ → Type 0) → (Writer → Writer → Type 0) → RunError → Writer → Writer → Type 0
+StopsPrinting is short OutOfMemory old new = short old new
+StopsPrinting is short WriteFault old new = (text : List ℕ) × is text × FailsToWrite old new text
+StopsPrinting is short ClockEnd old new = ⊥
+StopsPrinting is short Stalled old new = ⊥
+
+-- what a command that prints a text left, by its result: at Ok the whole text. If out of memory, nothing is left, since
+-- the text is made before it is written
+abbrev pub Prints : (List ℕ → Type 0) → Result (Unit {0}) RunError → Writer → Writer → Type 0
+Prints is (Ok x) old new = (text : List ℕ) × is text × Writes old new text
+Prints is (Err error) old new = StopsPrinting is IsUntouched error old new
+
+-- what stands below the line of a fault in the file with this name and these bytes: nothing, or an empty line and then
+-- a text that explains the fault
+abbrev pub StandsBelow : List ℕ → List ℕ → FileFault → List ℕ → Type 0
+StandsBelow name bytes fault [] = Unit {0}
+StandsBelow name bytes fault (byte ∷ text) = (byte ≡ 10) × ExplainsRefusal name bytes fault text
+
+-- the line of a fault was written, and what stands below it; or a call failed, and a prefix of both was written
+abbrev pub Explains : List ℕ → List ℕ → FileFault → Writer → Writer → Type 0
+Explains name bytes fault old new = (below : List ℕ) × StandsBelow name bytes fault below × TriesToWrite old new (file_line fault ++ below)

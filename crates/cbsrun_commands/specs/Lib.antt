@@ -1,15 +1,9 @@
-pub mod Checked
 pub mod Commands
 pub mod Environment
 pub mod FaultLines
-pub mod JobsByServer
-pub mod Pictured
-pub mod Printing
-pub mod Reported
+pub mod Outputs
 pub mod ResultLines
 pub mod ServingStops
-pub mod Statuses
-pub mod Stepped
 pub mod Verbs
 -- what the clauses name of the libraries below
 pub use Rattle.cbs_clients.specs.Houses

@@ -1,12 +1,17 @@
 -- What serving a task file writes: a line for each server, with the results of its jobs.
-use Rattle.std.specs.Prelude.{ℕ, List, ◌++◌, codes, decimal, flat_map, filter_map, length, map, Option, Some, None, if◌then◌else◌, ◌==◌}
+use Rattle.std.specs.Prelude.{ℕ, List, [], map, slice_index_or, Vec, ◌++◌, codes, decimal, flat_map, filter_map, length, Option, Some, None, if◌then◌else◌}
+use Rattle.std.specs.Prelude.{◌==◌}
+use Rattle.cbs_job.specs.declared.file.FileJob.{FileJob}
 use Rattle.std.specs.List.{range_with_len}
 use Rattle.cbs_job.specs.FileJobs.{of_files}
 use Rattle.cbs_job.specs.Work.{whole}
-use Rattle.cbs_job.specs.declared.file.FileJob.{FileJob}
 use Rattle.cbs_steps.specs.declared.step.Step.{Step}
 use Rattle.cbs_steps.specs.declared.step.Step.TheVariants.{Submit}
 use Rattle.cbsrun_tasks.specs.TaskFiles.{File}
+
+-- the jobs on the list of server s
+abbrev pub listed : {A : Type 0} → List (Vec FileJob A) → ℕ → List FileJob
+listed lists s = slice_index_or (map (λ jobs. jobs.items) lists) s []
 
 -- the job of a step that submits one to server s
 abbrev pub job_for : ℕ → Step FileJob → Option FileJob

@@ -3,8 +3,7 @@
 ghost use Rattle.std.specs.Prelude.{◌≡◌};
 ghost use Rattle.cbsrun_tables.specs.Documents.{no_memory};
 ghost use Rattle.cbsrun_commands.specs.Commands.{Tells};
-ghost use Rattle.cbsrun_commands.specs.FaultLines.{file_line};
-ghost use Rattle.cbsrun_commands.specs.Printing.{Explains, Prints};
+ghost use Rattle.cbsrun_commands.specs.FaultLines.{file_line, Explains, Prints};
 ghost use Rattle.cbsrun_commands.specs.declared.ending.Stopped.TheVariants.{Ended, Run, Unread};
 ghost use Rattle.cbsrun_lines.specs.Writers.{MayWrite, TriesToWrite};
 ghost use Rattle.cbsrun_lines.specs.declared.run_error.RunError.TheVariants.{OutOfMemory};

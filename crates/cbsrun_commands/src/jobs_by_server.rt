@@ -2,8 +2,7 @@
 
 ghost use Rattle.std.specs.Prelude.{◌≡◌, ℕ, [], ◌∷◌, ◌++◌, All, IfOk, OnOk, length, map, replicate};
 ghost use Rattle.std.specs.List.{range_with_len};
-ghost use Rattle.cbsrun_commands.specs.ResultLines.{jobs_for};
-ghost use Rattle.cbsrun_commands.specs.JobsByServer.{listed};
+ghost use Rattle.cbsrun_commands.specs.ResultLines.{jobs_for, listed};
 ghost use Rattle.cbsrun_tasks.specs.TaskFiles.{IsFileStep};
 
 use cbs_core::Step;

@@ -1,7 +1,7 @@
 //! The lines of the steps of a load: from its bytes to a status.
 
 ghost use Rattle.cbsrun_commands.specs.Commands.{Does, EndsAs};
-ghost use Rattle.cbsrun_commands.specs.Stepped.{lines_command};
+ghost use Rattle.cbsrun_commands.specs.Outputs.{lines_command};
 ghost use Rattle.cbsrun_lines.specs.Writers.{MayWrite};
 
 use crate::ending::{Stopped, status_of};

@@ -2,8 +2,8 @@
 
 ghost use Rattle.std.specs.Prelude.{◌≤◌, IfOk, length, string_bytes};
 ghost use Rattle.cbsrun_commands.specs.Commands.{Does, EndsAs};
-ghost use Rattle.cbsrun_commands.specs.Pictured.{load_drawing, task_drawing, IsDrawingOf, IsDrawn};
-ghost use Rattle.cbsrun_commands.specs.Printing.{Prints};
+ghost use Rattle.cbsrun_commands.specs.Outputs.{load_drawing, task_drawing, IsDrawingOf, IsDrawn};
+ghost use Rattle.cbsrun_commands.specs.FaultLines.{Prints};
 ghost use Rattle.cbsrun_runs.specs.Runs.{IsPictureOf};
 ghost use Rattle.cbsrun_lines.specs.Writers.{MayWrite};
 

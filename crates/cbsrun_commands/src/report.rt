@@ -2,8 +2,8 @@
 
 ghost use Rattle.std.specs.Prelude.{◌≡◌, ◌≤◌, IfOk, length, string_bytes};
 ghost use Rattle.cbsrun_commands.specs.Commands.{Does, EndsAs};
-ghost use Rattle.cbsrun_commands.specs.Printing.{Prints};
-ghost use Rattle.cbsrun_commands.specs.Reported.{load_report, task_report, IsRunText, text_in};
+ghost use Rattle.cbsrun_commands.specs.FaultLines.{Prints};
+ghost use Rattle.cbsrun_commands.specs.Outputs.{load_report, task_report, IsRunText, text_in};
 ghost use Rattle.cbsrun_lines.specs.Writers.{MayWrite};
 
 use crate::ending::{Stopped, print, status_of};

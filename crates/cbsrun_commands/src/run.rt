@@ -1,7 +1,6 @@
 //! One run: from the bytes of a file to a status.
 
-ghost use Rattle.cbsrun_commands.specs.Statuses.{Ends};
-ghost use Rattle.cbsrun_commands.specs.Verbs.{output_of, StopsShort};
+ghost use Rattle.cbsrun_commands.specs.Verbs.{Ends, output_of, StopsShort};
 ghost use Rattle.cbsrun_lines.specs.Writers.{Leaves, MayWrite};
 
 use crate::ending::{BAD_FILE, DONE, RUN_FAULT};

@@ -9,9 +9,8 @@ use Rattle.cbsrun_faults.specs.Spots.{IsServerSpot}
 use Rattle.cbsrun_faults.specs.declared.document.Document.{Document}
 use Rattle.cbsrun_faults.specs.declared.refused.Refused.{Refused}
 use Rattle.cbsrun_faults.specs.declared.spot.Spot.{Spot}
-use Rattle.cbsrun_fault_texts.specs.Refusals.{AppendsRefusal, IsNotRefusedAt, IsRefusalText, IsServerLine}
+use Rattle.cbsrun_fault_texts.specs.Refusals.{AppendsRefusal, IsNotRefusedAt, IsRefusalText, IsServerLine, IsSpotLine}
 use Rattle.cbsrun_fault_texts.specs.Pages.{AppendsA}
-use Rattle.cbsrun_fault_texts.specs.Spots.{IsSpotLine}
 use Rattle.cbsrun_fault_texts.specs.declared.page.Page.{Page}
 
 module _ (document : Document) (number : ℕ) (file : List ℕ) (top : Members) (is : IsDocument file top document) where

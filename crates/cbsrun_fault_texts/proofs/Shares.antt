@@ -10,7 +10,7 @@ use Rattle.cbs_rate.specs.Plan.{all_periods, total_share}
 use Rattle.cbs_rate.specs.Room.{IsBandwidth, IsExcess}
 use Rattle.cbs_rate.specs.declared.ratio.Ratio.{Ratio}
 use Rattle.cbs_rate.proofs.Shares.{cancel}
-use Rattle.cbsrun_fault_texts.specs.Shares.{IsShare, IsShortened}
+use Rattle.cbsrun_fault_texts.specs.Over.{IsShare, IsShortened}
 
 -- a factor of a positive product is positive
 factor : (m n : ℕ) → 0 < m * n → 0 < n

@@ -1,20 +1,35 @@
 -- What is told of a server that takes a plan over its bound: by how much, and what would fit.
-use Rattle.std.specs.Prelude.{◌≡◌, ℕ, zero, suc, ◌+◌, ◌-◌, ◌⊎◌, eqb, if◌then◌else◌, List, [], ◌∷◌, ◌++◌, codes, decimal, length, Option, Some, None}
+use Rattle.std.specs.Prelude.{◌≡◌, ℕ, ◌+◌, ◌*◌, ◌^◌, ◌<◌, ◌≤◌, zero, suc, ◌-◌, ◌⊎◌, eqb, if◌then◌else◌, List, [], ◌∷◌, ◌++◌, codes, decimal, length, Option}
+use Rattle.std.specs.Prelude.{Some, None}
+use Rattle.std.specs.Int.{◌∣◌}
+use Rattle.cbs_rate.specs.declared.ratio.Ratio.{Ratio}
 use Rattle.toml.specs.Data.{Data}
 use Rattle.cbs_rate.specs.Bound.{Fraction}
 use Rattle.cbs_rate.specs.Rate.{Rate}
 use Rattle.cbs_rate.specs.Plan.{Planned, IsGreatestBudget, common_multiple, with_rate}
 use Rattle.cbs_rate.specs.Room.{IsBandwidth, IsExcess, IsLeastPeriod}
-use Rattle.cbs_rate.specs.declared.ratio.Ratio.{Ratio}
-use Rattle.cbsrun_sizing.specs.Shares.{reserved}
+use Rattle.cbsrun_sizing.specs.Budgets.{reserved}
 use Rattle.cbs_guarantee.specs.Parts.{AreParts, IsSplitReason}
 use Rattle.cbs_guarantee.specs.declared.parts.Part.{Part}
 use Rattle.cbs_guarantee.specs.declared.parts.SplitError.TheVariants as error
-use Rattle.cbsrun_check_text.specs.Fractions.{fraction_text, percent_text}
+use Rattle.cbsrun_check_text.specs.Cells.{fraction_text, percent_text}
 use Rattle.cbsrun_faults.specs.Documents.{name_at}
 use Rattle.cbsrun_faults.specs.Refused.{AreReservations}
 use Rattle.cbsrun_faults.specs.declared.refused.Refused.{Refused}
 use Rattle.cbsrun_fault_texts.specs.Pages.{IsNote, bar, left_in, right_in}
+
+-- a fraction whose numbers are not too great to be written in per cent
+pub record IsShare (r : Ratio) : Type 0 where
+  pub some : 0 < r.whole
+  pub small : r.part + r.whole < 2 ^ 112
+
+-- The same fraction, shortened: its numbers times `divisor` are those of the other. No number times the other is whole
+-- and below its whole
+pub record IsShortened (r shortest : Ratio) : Type 0 where
+  pub divisor : ℕ
+  pub part : divisor * shortest.part ≡ r.part
+  pub whole : divisor * shortest.whole ≡ r.whole
+  pub least : (n : ℕ) → 0 < n → r.whole ∣ n * r.part → shortest.whole ≤ n
 
 -- ---- The sum
 

@@ -1,5 +1,9 @@
 -- What is told of a server that a plan does not take.
-use Rattle.std.specs.Prelude.{◌≡◌, ℕ, ◌⊎◌, List, ◌++◌, codes, decimal, length, Some, IsUtf8}
+use Rattle.std.specs.Prelude.{◌≡◌, List, ◌++◌, codes, Option, IfSome, ℕ, ◌⊎◌, decimal, length, Some, IsUtf8}
+use Rattle.cbsrun_faults.specs.Spots.{label_of, server_label}
+use Rattle.cbsrun_faults.specs.declared.spot.Spot.{Spot}
+use Rattle.cbsrun_tables.specs.Faults.{place_text}
+use Rattle.cbsrun_tables.specs.declared.fault.Place.{Place}
 use Rattle.toml.specs.Data.{Data, Members}
 use Rattle.toml.specs.Parse.{parse_document}
 use Rattle.cbs_rate.specs.Limits.{greatest_common_multiple, most_servers}
@@ -11,12 +15,20 @@ use Rattle.cbsrun_tables.specs.declared.fault.FileKind.TheVariants.{NotAdmitted}
 use Rattle.cbsrun_tables.specs.declared.fault.Place.TheVariants.{Server}
 use Rattle.cbsrun_faults.specs.Documents.{servers_of}
 use Rattle.cbsrun_faults.specs.Refused.{IsRefusedAt}
-use Rattle.cbsrun_faults.specs.Spots.{server_label}
 use Rattle.cbsrun_faults.specs.declared.refused.Refused.{Refused}
 use Rattle.cbsrun_fault_texts.specs.Over.{IsOverText}
 use Rattle.cbsrun_fault_texts.specs.Pages.{AppendsA, IsNote, bar, marked_line}
 use Rattle.cbsrun_fault_texts.specs.declared.page.Page.{Page}
-use Rattle.cbsrun_fault_texts.specs.Spots.{IsPlaceLine}
+
+-- the end of a line, and a line with the file, the place in it, and what is written beside that, if it is known
+pub record IsPlaceLine (file : List ℕ) (place : Place) (beside : Option (List ℕ)) (text : List ℕ) : Type 0 where
+  pub label : List ℕ
+  pub known : IfSome beside (λ known. label ≡ known)
+  pub bytes : text ≡ codes "\n  --> " ++ file ++ codes ": " ++ place_text place ++ label ++ codes "\n"
+
+-- the line of this spot
+abbrev pub IsSpotLine : Spot → List ℕ → Type 0
+IsSpotLine spot = IsPlaceLine spot.document.name.now spot.place (label_of spot)
 
 -- ---- Too many servers
 

@@ -4,8 +4,7 @@ ghost use Rattle.std.specs.Prelude.{◌≡◌, codes, map, Some};
 ghost use Rattle.toml.specs.View.{view, table_view};
 ghost use Rattle.cbs_rate.specs.Plan.{admit_refusal};
 ghost use Rattle.cbsrun_fault_texts.specs.Pages.{AppendsA, IsNote};
-ghost use Rattle.cbsrun_fault_texts.specs.Refusals.{before_words, IsTooManyText, IsPeriodText, IsTooFineText, IsRefusalText, AppendsRefusal};
-ghost use Rattle.cbsrun_fault_texts.specs.Spots.{IsSpotLine};
+ghost use Rattle.cbsrun_fault_texts.specs.Refusals.{before_words, IsTooManyText, IsPeriodText, IsTooFineText, IsRefusalText, AppendsRefusal, IsSpotLine};
 
 use crate::over::append_over;
 use crate::page::Page;

@@ -3,8 +3,7 @@ use Rattle.std.proofs.Common.{◌≡◌, ℕ, zero, suc, ◌<◌, List, [], ◌�
 use Rattle.std.specs.Prelude.{get_or, slice_get}
 use Rattle.std.proofs.lemmas.List.{get_or-map, length-map}
 use Rattle.cbsrun_events.specs.declared.seen.Seen.{Seen}
-use Rattle.cbsrun_figures.specs.Figures.{steps_of}
-use Rattle.cbsrun_figures.specs.Reports.{AreAllFigures}
+use Rattle.cbsrun_figures.specs.Figures.{steps_of, AreAllFigures}
 use Rattle.cbsrun_figures.specs.Tallies.{Kept, kept_at, no_kept, HasSeen, Reported, budgets, Tells, TellAll}
 use Rattle.cbsrun_figures.specs.declared.figures.Figures.{Figures}
 

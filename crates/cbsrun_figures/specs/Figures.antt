@@ -1,6 +1,6 @@
 -- The figures of one server, as functions of its steps. The steps stand with the newest first.
-use Rattle.std.specs.Prelude.{◌≡◌, ℕ, ◌+◌, ◌-◌, Bool, false, ◌&&◌, ◌||◌, eqb, leb, ltb, min, max}
-use Rattle.std.specs.Prelude.{if◌then◌else◌, List, [], ◌∷◌, ◌++◌, length, map, drop, filter, flat_map, slice_get, Option, Some, None, MatchOption}
+use Rattle.std.specs.Prelude.{◌≡◌, ℕ, ◌+◌, ◌-◌, Bool, false, ◌&&◌, ◌||◌, eqb, leb, ltb, min, max, if◌then◌else◌, List, [], ◌∷◌, ◌++◌, length, map, drop, filter}
+use Rattle.std.specs.Prelude.{flat_map, slice_get, Option, Some, None, MatchOption, get_or}
 use Rattle.std.specs.Option.{option_map, option_to_list}
 use Rattle.cbs_steps.specs.declared.reply.Ran.TheVariants as ran
 use Rattle.cbs_steps.specs.declared.view.ServerView.{ServerView}
@@ -221,3 +221,8 @@ pub record AreFigures (budget now : ℕ) (own : List Seen) (f : Figures) : Type 
   pub early_count : f.early_count ≡ told (length (earliness (finished own)))
   pub early_total : f.early_total ≡ told_sum (sum_of (earliness (finished own)))
   pub early_least : f.early_least ≡ least_of (earliness (finished own))
+
+-- the figures of each server with these budgets, by number, over what was seen up to the tick `now`
+pub record AreAllFigures (budgets : List ℕ) (now : ℕ) (seen : List Seen) (figures : List Figures) : Type 0 where
+  pub count : length figures ≡ length budgets
+  pub each : (s : ℕ) (f : Figures) → slice_get figures s ≡ Some f → AreFigures (get_or budgets s 0) now (steps_of s seen) f

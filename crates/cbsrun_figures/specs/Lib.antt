@@ -1,6 +1,5 @@
 pub mod Figures
 pub mod Percentiles
-pub mod Reports
 pub mod Tallies
 -- what the clauses name of the libraries below
 pub use Rattle.cbsrun_events.specs.declared.seen.Seen

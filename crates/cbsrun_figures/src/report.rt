@@ -2,8 +2,7 @@
 
 ghost use Rattle.std.specs.Prelude.{◌≡◌, ℕ, ◌+◌, List, [], IfOk, OnOk, length, map};
 ghost use Rattle.cbsrun_events.specs.declared.seen.Seen.{Seen};
-ghost use Rattle.cbsrun_figures.specs.Figures.{told, total};
-ghost use Rattle.cbsrun_figures.specs.Reports.{AreAllFigures};
+ghost use Rattle.cbsrun_figures.specs.Figures.{told, total, AreAllFigures};
 ghost use Rattle.cbsrun_figures.specs.Tallies.{AddsStep, HasSeen, Reported, budgets, passed, ticks_idle};
 
 use crate::figures::Figures;

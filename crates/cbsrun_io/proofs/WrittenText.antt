@@ -1,7 +1,7 @@
 -- One write after another.
 use Rattle.std.proofs.Common.{◌≡◌, ℕ, List, [], ◌++◌, Option, Some, None, refl, sym, ap, ◌∙◌, append_assoc}
 use Rattle.std.proofs.lemmas.List.{append-nil}
-use Rattle.cbsrun_io.specs.Writes.{AppendsFront, AppendsAllBut}
+use Rattle.cbsrun_io.specs.Writers.{AppendsFront, AppendsAllBut}
 use Rattle.std.specs.Io.KnownBytes.{Appends, Consumes, Keeps}
 
 -- a text is appended, and then another

@@ -1,4 +1,3 @@
 pub mod Counted
 pub mod Reads
 pub mod Writers
-pub mod Writes

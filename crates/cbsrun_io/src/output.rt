@@ -2,8 +2,7 @@
 
 ghost use Rattle.std.specs.Prelude.{◌≡◌, ◌<◌, ◌≤◌, length, take, IfOk, OnOk, OnErr};
 ghost use Rattle.cbsrun_io.specs.Counted.{Counted};
-ghost use Rattle.cbsrun_io.specs.Writers.{Writer, MayWrite, Writes, Fails, FailsToWrite};
-ghost use Rattle.cbsrun_io.specs.Writes.{joined};
+ghost use Rattle.cbsrun_io.specs.Writers.{Writer, MayWrite, Writes, Fails, FailsToWrite, joined};
 
 use std::io;
 use std::io::{ErrorKind, Write};

@@ -7,7 +7,7 @@ use Rattle.cbsrun_lines.specs.Lines.{lines_of, line_of}
 use Rattle.cbsrun_lines.specs.Traces.{WritesSomeLines}
 use Rattle.cbsrun_lines.specs.WritingLines.{HasWritten, FailedToWrite, WroteSome, WroteShown}
 use Rattle.cbsrun_lines.specs.Writers.{Writer, Writes, WritesAllBut, FailsToWrite}
-use Rattle.cbsrun_io.specs.Writes.{AppendsFront, AppendsAllBut}
+use Rattle.cbsrun_io.specs.Writers.{AppendsFront, AppendsAllBut}
 use Rattle.cbsrun_lines.specs.declared.lines.Lines.{Lines}
 use Rattle.cbsrun_io.proofs.WrittenText.{Appends-nothing, Appends-then, all_but_then, all_waits, front_more, part_ends, waits_too}
 

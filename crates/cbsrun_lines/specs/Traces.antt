@@ -6,7 +6,7 @@ use Rattle.cbsrun_runs.specs.Loads.{seen_in}
 use Rattle.cbsrun_runs.specs.Tasks.{seen_in_tasks}
 use Rattle.cbsrun_events.specs.declared.seen.Seen.{Seen}
 use Rattle.cbsrun_lines.specs.Lines.{lines_of}
-use Rattle.cbsrun_io.specs.Writes.{AppendsFront}
+use Rattle.cbsrun_io.specs.Writers.{AppendsFront}
 use Rattle.cbsrun_lines.specs.Writers.{Writer, Writes, StopsWriting, Leaves}
 use Rattle.cbsrun_lines.specs.declared.run_error.RunError.{RunError}
 

@@ -1,8 +1,22 @@
 -- What a run leaves on the writer that it was lent.
-use Rattle.std.specs.Prelude.{ℕ, List, Result, Ok, Err}
-pub use Rattle.cbsrun_io.specs.Writers.{Writer, MayWrite, IsUntouched, Writes, WritesAllBut, FailsToWrite, TriesToWrite}
+use Rattle.std.specs.Prelude.{ℕ, List, codes, Result, Ok, Err}
 use Rattle.cbsrun_lines.specs.declared.run_error.RunError.{RunError}
 use Rattle.cbsrun_lines.specs.declared.run_error.RunError.TheVariants.{OutOfMemory, WriteFault, ClockEnd, Stalled}
+pub use Rattle.cbsrun_io.specs.Writers.{Writer, MayWrite, IsUntouched, Writes, WritesAllBut, FailsToWrite, TriesToWrite}
+
+-- the number of each run fault
+abbrev pub run_error_number : RunError → ℕ
+run_error_number OutOfMemory = 1
+run_error_number WriteFault = 2
+run_error_number ClockEnd = 3
+run_error_number Stalled = 4
+
+-- the name of each run fault
+abbrev pub run_error_name : RunError → List ℕ
+run_error_name OutOfMemory = codes "OutOfMemory"
+run_error_name WriteFault = codes "WriteFault"
+run_error_name ClockEnd = codes "ClockEnd"
+run_error_name Stalled = codes "Stalled"
 
 -- the result of a run, and what it left on the writer: at Ok its whole output, and at an error what `stops` says
 abbrev pub Leaves : List ℕ → (RunError → Writer → Writer → Type 0) → Result (Unit {0}) RunError → Writer → Writer → Type 0

@@ -25,7 +25,7 @@ pub enum RunError {
 }
 
 impl RunError {
-    ghost use Rattle.cbsrun_lines.specs.Runs.{run_error_number, run_error_name};
+    ghost use Rattle.cbsrun_lines.specs.Writers.{run_error_number, run_error_name};
 
     /// Returns the error's number, from 1.
     pub fn number(self) -> u8

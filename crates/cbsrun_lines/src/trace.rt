@@ -3,8 +3,7 @@
 ghost use Rattle.std.specs.Prelude.{OnOk};
 ghost use Rattle.cbsrun_lines.specs.Traces.{trace, LinesStop};
 ghost use Rattle.cbsrun_lines.specs.Writers.{MayWrite, Leaves};
-ghost use Rattle.cbsrun_runs.specs.FileLaws.{KeepsLaws};
-ghost use Rattle.cbsrun_runs.specs.Tasks.{seen_in_tasks};
+ghost use Rattle.cbsrun_runs.specs.Tasks.{KeepsLaws, seen_in_tasks};
 
 use crate::lines::write_lines;
 use crate::run_error::RunError;

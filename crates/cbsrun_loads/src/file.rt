@@ -8,7 +8,7 @@ ghost use Rattle.cbsrun_tables.specs.declared.fault.FileKind.TheVariants.{OutOfM
 ghost use Rattle.cbsrun_tables.specs.declared.fault.Place.TheVariants.{Top, Source as AtSource};
 ghost use Rattle.cbsrun_tables.specs.Documents.{at, document, no_memory, taken_in};
 ghost use Rattle.cbsrun_tables.specs.Fields.{Gives, each_from};
-ghost use Rattle.cbsrun_tables.specs.Bounds.{IsBounded, result_of};
+ghost use Rattle.cbsrun_tables.specs.Memory.{IsBounded, result_of};
 ghost use Rattle.cbsrun_loads.specs.Loads.{IsSource};
 ghost use Rattle.cbsrun_loads.specs.Sources.{source_entry};
 ghost use Rattle.cbsrun_loads.specs.Spelling.{admitted_entry, load, load_in, named_view};

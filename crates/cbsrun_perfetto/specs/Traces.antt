@@ -1,16 +1,128 @@
 -- The whole trace.
-use Rattle.std.specs.Prelude.{◌≡◌, ℕ, ◌+◌, List, [], ◌∷◌, ◌++◌, codes, decimal, flat_map, string_bytes}
+use Rattle.std.specs.Prelude.{ℕ, ◌+◌, ◌-◌, eqb, if◌then◌else◌, List, [], ◌∷◌, ◌++◌, codes, decimal, flat_map, get_or, length, map, string_bytes, Option, Some}
+use Rattle.std.specs.Prelude.{None, ◌≡◌}
+use Rattle.std.specs.List.{range_with_len}
+use Rattle.cbsrun_chart.specs.declared.chart.ServerChart.{ServerChart}
+use Rattle.cbsrun_chart.specs.declared.course.Corner.{Corner}
+use Rattle.cbsrun_chart.specs.Jobs.{job_numbered}
+use Rattle.cbsrun_chart.specs.declared.jobs.ChartJob.{ChartJob}
+use Rattle.cbsrun_chart.specs.declared.picture.Drawn.{Drawn}
+use Rattle.cbsrun_window.specs.declared.stretch.Kind.{Kind}
+use Rattle.cbsrun_window.specs.declared.stretch.Kind.TheVariants as kind
+use Rattle.cbsrun_window.specs.declared.stretch.Stretch.{Stretch}
+use Rattle.cbsrun_window.specs.Windows.{ends_tick, has_tick}
+use Rattle.cbsrun_window.specs.declared.window.Window.{Window}
+use Rattle.cbsrun_perfetto.specs.Events.{LineSeen, budget_data, came_args, finished_args, instant_data, job_args, line_of, no_args, slice_data, about_data}
+use Rattle.cbsrun_perfetto.specs.Events.{named_args, placed_args}
 use Rattle.std.specs.Ordering.{nat_cmp}
 use Rattle.std.specs.List.Sorted.{IsPermutation, IsSortedByKey, IsStableByKey}
 use Rattle.serde_json.specs.Written.{compact_text}
-use Rattle.cbsrun_chart.specs.declared.picture.Drawn.{Drawn}
 use Rattle.cbsrun_chart.specs.declared.picture.Picture.{Picture}
-use Rattle.cbsrun_window.specs.declared.window.Window.{Window}
 use Rattle.cbs_rate.specs.Rate.{Rate}
 use Rattle.cbs_rules.specs.declared.mode.Mode.{Mode}
-use Rattle.cbsrun_text.specs.Modes.{mode_word}
-use Rattle.cbsrun_perfetto.specs.Events.{LineSeen, about_data, named_args, placed_args}
-use Rattle.cbsrun_perfetto.specs.Servers.{events_of}
+use Rattle.cbsrun_text.specs.Numbers.{mode_word}
+
+-- a bar of job j, with what is known of the job
+unfoldable pub bar_line : ℕ → List ChartJob → ℕ → Stretch → LineSeen
+bar_line thread jobs j p =
+    line_of p.from (slice_data (codes "job " ++ decimal j) (codes "run") thread p.from p.to (job_args j (job_numbered j jobs)))
+
+-- ticks that are no bar, by what goes on in them
+unfoldable pub other_line : ℕ → List ℕ → Stretch → LineSeen
+other_line thread what p = line_of p.from (slice_data what what thread p.from p.to no_args)
+
+-- the slice of a stretch, if it has one: a bar, charged ticks, or ticks in which the server is throttled with a job
+abbrev pub slice_of : ℕ → List ChartJob → Kind → Stretch → List LineSeen
+slice_of thread jobs (kind.Runs j) p = bar_line thread jobs j p ∷ []
+slice_of thread jobs kind.Charged p = other_line thread (codes "charged") p ∷ []
+slice_of thread jobs kind.Throttled p = other_line thread (codes "throttled") p ∷ []
+slice_of thread jobs _ p = []
+
+-- the slices of all stretches
+unfoldable pub slices_of : ℕ → ServerChart → List LineSeen
+slices_of thread c = flat_map (λ p. slice_of thread c.jobs.items p.kind p) c.spans.items
+
+-- by how many ticks a job that took so many was late, or 0 if it was not
+abbrev pub late_by : Option ℕ → ℕ → ℕ
+late_by None took = 0
+late_by (Some within) took = took - within
+
+-- the end of a job that took this many ticks, and was late by this many
+unfoldable pub end_line : ℕ → ChartJob → ℕ → ℕ → ℕ → LineSeen
+end_line thread job tick took late =
+    line_of tick
+    (instant_data (codes "job " ++ decimal job.number ++ codes " finished" ++ (if eqb late 0 then [] else codes ", late"))
+    (if eqb late 0 then codes "completion" else codes "late") thread tick (finished_args took late))
+
+-- the end of a job, if the job was finished in the window
+abbrev pub end_at : Window → ℕ → ChartJob → Option ℕ → List LineSeen
+end_at w thread job None = []
+end_at w thread job (Some finish) =
+    if ends_tick w finish
+    then end_line thread job finish (finish - job.came) (late_by job.within (finish - job.came)) ∷ []
+    else []
+
+unfoldable pub ends_of : Window → ℕ → List ChartJob → List LineSeen
+ends_of w thread jobs = flat_map (λ job. end_at w thread job job.finish) jobs
+
+-- a tick in which a release is refused
+unfoldable pub refused_line : ℕ → ℕ → LineSeen
+refused_line thread tick = line_of tick (instant_data (codes "refused") (codes "refused") thread tick no_args)
+
+-- the refused releases of each tick of a stretch
+unfoldable pub refusals_in : ℕ → Stretch → List LineSeen
+refusals_in thread p = map (λ k. refused_line thread (p.from + k)) (range_with_len 0 (p.to - p.from))
+
+unfoldable pub refusals_of : ℕ → List Stretch → List LineSeen
+refusals_of thread ps = flat_map (refusals_in thread) ps
+
+-- the arrival of a job
+unfoldable pub arrival_line : ℕ → ChartJob → LineSeen
+arrival_line thread job =
+    line_of job.came (instant_data (codes "job " ++ decimal job.number ++ codes " comes") (codes "arrival") thread job.came (came_args job))
+
+-- the arrival of a job, if the job came in the window
+abbrev pub arrival_in : Window → ℕ → ChartJob → List LineSeen
+arrival_in w thread job = if has_tick w job.came then arrival_line thread job ∷ [] else []
+
+unfoldable pub arrivals_of : Window → ℕ → List ChartJob → List LineSeen
+arrivals_of w thread jobs = flat_map (arrival_in w thread) jobs
+
+-- a deadline of the server
+unfoldable pub deadline_line : ℕ → ℕ → LineSeen
+deadline_line thread tick = line_of tick (instant_data (codes "deadline") (codes "deadline") thread tick no_args)
+
+unfoldable pub deadlines_of : ℕ → List ℕ → List LineSeen
+deadlines_of thread ts = map (deadline_line thread) ts
+
+-- the budget of a server from a tick on
+unfoldable pub budget_line : List ℕ → ℕ → ℕ → ℕ → LineSeen
+budget_line name thread tick budget = line_of tick (budget_data name thread tick budget)
+
+-- the budget before corner i of its course
+abbrev pub budget_before : ℕ → List Corner → ℕ → ℕ
+budget_before opening corners i = if eqb i 0 then opening else (get_or corners (i - 1) (record { tick = 0; budget = 0 })).budget
+
+-- the budget from a corner on, if it differs from the budget before
+abbrev pub change_between : List ℕ → ℕ → ℕ → Corner → List LineSeen
+change_between name thread before corner = if eqb corner.budget before then [] else budget_line name thread corner.tick corner.budget ∷ []
+
+abbrev pub change_at : List ℕ → ℕ → ℕ → List Corner → ℕ → List LineSeen
+change_at name thread opening corners i =
+    change_between name thread (budget_before opening corners i) (get_or corners i (record { tick = 0; budget = 0 }))
+
+-- each change of a budget in its course
+unfoldable pub changes_of : List ℕ → ℕ → ℕ → List Corner → List LineSeen
+changes_of name thread opening corners = flat_map (change_at name thread opening corners) (range_with_len 0 (length corners))
+
+unfoldable pub budgets_of : Window → List ℕ → ℕ → ServerChart → List LineSeen
+budgets_of w name thread c = budget_line name thread w.from c.opening ∷ [] ++ changes_of name thread c.opening c.corners.items
+
+-- all events of a server
+unfoldable pub events_of : Window → ℕ → Drawn → List LineSeen
+events_of w thread d =
+    slices_of thread d.chart ++ ends_of w thread d.chart.jobs.items ++ refusals_of thread d.chart.refused.items
+    ++ arrivals_of w thread d.chart.jobs.items ++ deadlines_of thread d.chart.deadlines.items ++ budgets_of w (string_bytes d.name) thread d.chart
 
 -- what f gives for each server, by numbers from n on, in order
 abbrev pub numbered : {X : Type 0} → (ℕ → Drawn → List X) → ℕ → List Drawn → List X

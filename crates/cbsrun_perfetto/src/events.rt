@@ -5,7 +5,7 @@ ghost use Rattle.serde_json.specs.Data.{no_members};
 ghost use Rattle.serde_json.specs.View.{view};
 ghost use Rattle.serde_json.specs.Written.{compact_text, has_float};
 ghost use Rattle.cbsrun_perfetto.specs.Events.{about_data, came_args, event_data, finished_args, instant_data, job_args, line_of, member_of, named_args, no_args, on_thread, placed_args, slice_data, with_members};
-ghost use Rattle.cbsrun_perfetto.specs.Servers.{budget_line};
+ghost use Rattle.cbsrun_perfetto.specs.Traces.{budget_line};
 
 use crate::line::Line;
 use crate::members::{Scalar, object_of, put_all};

@@ -4,7 +4,7 @@ ghost use Rattle.std.specs.Prelude.{◌≡◌, ◌<◌, ◌++◌, false, IfOk, O
 ghost use Rattle.serde_json.specs.View.{view};
 ghost use Rattle.serde_json.specs.Written.{has_float};
 ghost use Rattle.cbsrun_perfetto.specs.Events.{instant_data, line_of};
-ghost use Rattle.cbsrun_perfetto.specs.Servers.{arrival_in, arrival_line, arrivals_of, budget_before, budgets_of, change_at, change_between, changes_of, deadline_line, deadlines_of, end_at, end_line, ends_of, late_by, refusals_in, refusals_of, refused_line};
+ghost use Rattle.cbsrun_perfetto.specs.Traces.{arrival_in, arrival_line, arrivals_of, budget_before, budgets_of, change_at, change_between, changes_of, deadline_line, deadlines_of, end_at, end_line, ends_of, late_by, refusals_in, refusals_of, refused_line};
 
 use crate::events::{budget_line, came_args, finished_args, instant_line, no_args};
 use crate::line::{Line, append_line};

@@ -1,8 +1,7 @@
 //! The events of one server, and its title.
 
 ghost use Rattle.std.specs.Prelude.{◌≡◌, ◌-◌, ◌<◌, ◌^◌, ◌++◌, IfOk, OnOk, string_bytes};
-ghost use Rattle.cbsrun_perfetto.specs.Servers.{events_of};
-ghost use Rattle.cbsrun_perfetto.specs.Traces.{next_text, server_text, title_text};
+ghost use Rattle.cbsrun_perfetto.specs.Traces.{events_of, next_text, server_text, title_text};
 
 use crate::events::{about_text, named_args, placed_args};
 use crate::line::Line;

@@ -1,7 +1,7 @@
 //! The slices of a trace: what a server does.
 
 ghost use Rattle.std.specs.Prelude.{◌≡◌, ◌++◌, IfOk, OnOk};
-ghost use Rattle.cbsrun_perfetto.specs.Servers.{bar_line, other_line, slice_of, slices_of};
+ghost use Rattle.cbsrun_perfetto.specs.Traces.{bar_line, other_line, slice_of, slices_of};
 
 use crate::events::{job_args, no_args, slice_line};
 use crate::line::{Line, append_line};

@@ -1,22 +1,34 @@
 -- The whole report as JSON: its keys, and the figure of each key.
 use Rattle.std.specs.Prelude.{ℕ, Bool, List, [], ◌∷◌, ◌++◌, codes, map, Option, Some, None, string_bytes}
+use Rattle.cbsrun_report_text.specs.Reports.{released, is_in_time, sum_of}
+use Rattle.cbsrun_figures.specs.declared.figures.Figures.{Figures}
+use Rattle.cbsrun_report_json.specs.declared.sums.Sum.{Sum}
+use Rattle.cbsrun_report_json.specs.declared.sums.Sum.TheVariants as sum
 use Rattle.std.specs.Borrow.{Bor}
 use Rattle.std.specs.List.{list_all}
 use Rattle.serde_json.specs.Data.{Data, null, boolean, number, unsigned, string, array, object, Items, no_items, item, Members, no_members, put}
 use Rattle.serde_json.specs.View.{items_of}
 use Rattle.serde_json.specs.Written.{compact_text}
-use Rattle.cbsrun_text.specs.Modes.{mode_word}
+use Rattle.cbsrun_text.specs.Numbers.{mode_word}
 use Rattle.cbsrun_simulate.specs.Bounds.{Bounds}
 use Rattle.cbsrun_figures.specs.Figures.{told}
-use Rattle.cbsrun_figures.specs.declared.figures.Figures.{Figures}
 use Rattle.cbsrun_figures.specs.declared.figures.Ranks.{Ranks}
-use Rattle.cbsrun_report_text.specs.Reports.{released, is_in_time, sum_of}
 use Rattle.cbsrun_report_text.specs.declared.report.RunReport.{RunReport}
 use Rattle.cbsrun_report_text.specs.declared.report.ServerReport.{ServerReport}
 use Rattle.cbsrun_report_json.specs.declared.figures.Figure.{Figure}
 use Rattle.cbsrun_report_json.specs.declared.figures.Figure.TheVariants as figure
 use Rattle.cbsrun_report_json.specs.declared.parts.Part.{Part}
 use Rattle.cbsrun_report_json.specs.declared.parts.Part.TheVariants as part
+
+abbrev pub figure_of : Sum → Figures → ℕ
+figure_of sum.Released f = released f
+figure_of sum.Refused f = f.refused
+figure_of sum.Finished f = f.finished
+figure_of sum.Unfinished f = f.unfinished
+figure_of sum.LateFinished f = f.late_finished
+figure_of sum.LateUnfinished f = f.late_unfinished
+figure_of sum.Run f = f.run
+figure_of sum.Charged f = f.charged
 
 -- the members, and these put among them, in the order of their keys
 abbrev pub with_members : List (List ℕ × Data) → Members → Members

@@ -1,2 +1,1 @@
 pub mod Json
-pub mod Sums

@@ -3,7 +3,7 @@
 ghost use Rattle.std.specs.Prelude.{◌≡◌};
 ghost use Rattle.cbsrun_report_text.specs.Reports.{sum_of};
 ghost use Rattle.cbsrun_figures.specs.Figures.{told};
-ghost use Rattle.cbsrun_report_json.specs.Sums.{figure_of};
+ghost use Rattle.cbsrun_report_json.specs.Json.{figure_of};
 
 use cbsrun_report_text::ServerReport;
 

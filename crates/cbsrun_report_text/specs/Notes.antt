@@ -1,7 +1,7 @@
 -- Notes on what to do about servers that are not in time.
 use Rattle.std.specs.Prelude.{ℕ, ◌+◌, ◌*◌, ◌||◌, eqb, ltb, if◌then◌else◌, List, [], ◌∷◌, ◌++◌, codes, decimal, flat_map, Option, Some, None, string_bytes}
 use Rattle.std.specs.Int.{div_ceil}
-use Rattle.cbsrun_report_text.specs.Numbers.{percent_text}
+use Rattle.cbsrun_report_text.specs.Cells.{percent_text}
 use Rattle.cbsrun_report_text.specs.Verdicts.{is_wrong}
 use Rattle.cbsrun_report_text.specs.declared.report.ServerReport.{ServerReport}
 

@@ -1,6 +1,6 @@
 -- The report of a load keeps what is promised for a server.
-use Rattle.std.proofs.Common.{◌≡◌, ◌≢◌, ℕ, zero, suc, ◌+◌, ◌≤◌, ◌<◌, true, false, eqb, leb, ltb, List, [], ◌∷◌, length, map, get_or, arith, refl}
-use Rattle.std.proofs.Common.{sym, ap, subst, ◌∙◌, inl, inr, Option, Some, None}
+use Rattle.std.proofs.Common.{◌≡◌, ◌≢◌, ℕ, zero, suc, ◌+◌, ◌≤◌, ◌<◌, true, false, eqb, leb, ltb, List, [], ◌∷◌, length, map, get_or, arith, refl, sym, ap}
+use Rattle.std.proofs.Common.{subst, ◌∙◌, inl, inr, Option, Some, None}
 use Rattle.std.specs.Prelude.{if◌then◌else◌, Result}
 use Rattle.std.specs.List.{sum_by}
 use Rattle.std.proofs.lemmas.Bool.{cases_Bool}
@@ -36,7 +36,7 @@ use Rattle.cbsrun_figures.specs.declared.job.Finish.{Finish}
 use Rattle.cbs_steps.specs.declared.step.Step.{Step}
 use Rattle.cbs_steps.specs.declared.step.Step.TheVariants.{Run}
 use Rattle.std.specs.Option.{option_to_list}
-use Rattle.cbsrun_sizing.specs.Kept.{IsKeptMove}
+use Rattle.cbsrun_sizing.specs.Lateness.{IsKeptMove}
 use Rattle.cbsrun_sizing.proofs.Counted.{finished_job, finished_unit, run_here, run_elsewhere}
 use Rattle.cbsrun_sizing.proofs.Promises.{promise_kept, released_at}
 use Rattle.cbsrun_sizing.proofs.ServerMoves.{advance_same, charge_same, submit_elsewhere, chosen_owes}
@@ -45,8 +45,7 @@ use Rattle.cbsrun_events.specs.Events.{server_of}
 use Rattle.cbsrun_events.specs.declared.seen.Event.{Event}
 use Rattle.cbsrun_events.specs.declared.seen.Event.TheVariants as event
 use Rattle.cbsrun_events.specs.declared.seen.Seen.{Seen}
-use Rattle.cbsrun_runs.specs.Kept.{KeepsPromises}
-use Rattle.cbsrun_runs.specs.Loads.{start_of, seen_in}
+use Rattle.cbsrun_runs.specs.Loads.{KeepsPromises, start_of, seen_in}
 use Rattle.cbsrun_runs.proofs.KeptReports.{IsSoon, CameFrom, Tells, all_append, listed, tells_still, tells_job, tells_unit, tells_done, tells_charge}
 use Rattle.cbsrun_runs.proofs.ThrottledTicks.{counted}
 use Rattle.cbsrun_runs.proofs.WaitingMoves.{of_unit, of_submit}

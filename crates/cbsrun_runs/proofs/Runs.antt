@@ -13,11 +13,11 @@ use Rattle.cbsrun_simulate.specs.Shown.{shown}
 use Rattle.cbsrun_simulate.specs.declared.load_job.LoadJob.{LoadJob}
 use Rattle.cbsrun_simulate.specs.declared.release.Release.{Release}
 use Rattle.cbs_steps.specs.Setups.{terms_of}
-use Rattle.cbsrun_figures.specs.Reports.{AreAllFigures}
+use Rattle.cbsrun_figures.specs.Figures.{AreAllFigures}
 use Rattle.cbsrun_figures.specs.declared.figures.Figures.{Figures}
 use Rattle.cbsrun_events.specs.declared.seen.Seen.{Seen}
 use Rattle.cbsrun_runs.specs.Loads.{seen_in}
-use Rattle.cbsrun_runs.specs.Showing.{SawSome}
+use Rattle.cbsrun_runs.specs.Runs.{SawSome}
 
 -- a simulation of these servers and releases
 abbrev pub simulation : List Mode → Planned → ℕ → List Release → Simulation LoadJob

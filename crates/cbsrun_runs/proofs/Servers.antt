@@ -4,8 +4,7 @@ use Rattle.std.specs.List.{range_with_len}
 use Rattle.std.specs.Prelude.{get_or, slice_get, string_bytes, IsSome}
 use Rattle.std.proofs.lemmas.List.{get_or-map, length-map}
 use Rattle.cbs_rate.specs.Rate.{Rate}
-use Rattle.cbsrun_figures.specs.Reports.{AreAllFigures}
-use Rattle.cbsrun_figures.specs.Figures.{AreFigures, steps_of}
+use Rattle.cbsrun_figures.specs.Figures.{AreAllFigures, AreFigures, steps_of}
 use Rattle.cbsrun_figures.specs.declared.figures.Figures.{Figures}
 use Rattle.cbsrun_report_text.specs.declared.report.ServerReport.{ServerReport}
 use Rattle.cbsrun_runs.specs.Runs.{Shown, SameServers, IsServerReport}

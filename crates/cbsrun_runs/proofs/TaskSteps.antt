@@ -10,7 +10,7 @@ use Rattle.cbs_steps.specs.Continuations.{◌⊕⊕◌}
 use Rattle.cbs_steps.specs.History.{History, ◌⊕◌}
 use Rattle.cbs_steps.specs.declared.step.Step.{Step}
 use Rattle.cbsrun_events.specs.declared.seen.Seen.{Seen}
-use Rattle.cbsrun_runs.specs.Showing.{SawSome}
+use Rattle.cbsrun_runs.specs.Runs.{SawSome}
 use Rattle.cbsrun_runs.specs.Tasks.{seen_after, seen_from, StopsAmong}
 
 -- before the first step

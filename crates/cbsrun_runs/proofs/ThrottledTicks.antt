@@ -1,6 +1,6 @@
 -- The throttled ticks that are computed from a server's own steps are the ticks at which it waits.
-use Rattle.std.proofs.Common.{◌≡◌, ℕ, zero, suc, ◌+◌, ◌-◌, ◌≤◌, ◌<◌, Bool, true, false, not, ◌&&◌, leb, ltb}
-use Rattle.std.proofs.Common.{List, [], ◌∷◌, length, map, arith, refl, ap, sym, subst, ◌∙◌, inl, inr}
+use Rattle.std.proofs.Common.{◌≡◌, ℕ, zero, suc, ◌+◌, ◌-◌, ◌≤◌, ◌<◌, Bool, true, false, not, ◌&&◌, leb, ltb, List, [], ◌∷◌, length, map, arith, refl, ap, sym}
+use Rattle.std.proofs.Common.{subst, ◌∙◌, inl, inr}
 use Rattle.std.proofs.lemmas.Bool.Decides.{nat_tests}
 use Rattle.cbs_core.specs.Held.{CoreHeld}
 use Rattle.cbsrun_loads.specs.Loads.{LoadFile}
@@ -30,9 +30,8 @@ use Rattle.cbsrun_events.specs.Events.{begun}
 use Rattle.cbsrun_events.specs.declared.seen.Event.TheVariants as event
 use Rattle.cbsrun_events.specs.declared.seen.Seen.{Seen}
 use Rattle.cbsrun_chart.specs.Ticks.{AreInTurn}
-use Rattle.cbsrun_runs.specs.Loads.{start_of, run_of, AreThrottled}
+use Rattle.cbsrun_runs.specs.Loads.{start_of, run_of, AreThrottled, is_waiting, shows, is_charge_of, waits_in, waits_at, count_ticks}
 use Rattle.cbsrun_runs.specs.Runs.{AreInOrder}
-use Rattle.cbsrun_runs.specs.Throttled.{is_waiting, shows, is_charge_of, waits_in, waits_at, count_ticks}
 use Rattle.cbsrun_runs.proofs.Runs.{simulation}
 use Rattle.cbsrun_runs.proofs.Waits.{passed, wait, waited_is, wait_none, wait_more, wait_counted}
 use Rattle.cbsrun_runs.proofs.WaitingMoves.{IsOwn, IsOther, Leaves, seen_as, shown_jump, run_leaves, pass_leaves, charge_leaves, submit_leaves}

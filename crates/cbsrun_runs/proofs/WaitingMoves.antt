@@ -1,6 +1,6 @@
 -- What each move of a simulation does to a server that may wait.
-use Rattle.std.proofs.Common.{◌≡◌, ℕ, zero, suc, ◌+◌, ◌-◌, ◌≤◌, ◌<◌, Bool, true, false, not, ◌&&◌, eqb, leb}
-use Rattle.std.proofs.Common.{ltb, List, [], ◌∷◌, length, map, get_or, arith, refl, ap, sym, subst, ◌∙◌, inl, inr, ◌⊎◌, Option, Some, None}
+use Rattle.std.proofs.Common.{◌≡◌, ℕ, zero, suc, ◌+◌, ◌-◌, ◌≤◌, ◌<◌, Bool, true, false, not, ◌&&◌, eqb, leb, ltb, List, [], ◌∷◌, length, map, get_or, arith}
+use Rattle.std.proofs.Common.{refl, ap, sym, subst, ◌∙◌, inl, inr, ◌⊎◌, Option, Some, None}
 use Rattle.std.specs.Prelude.{if◌then◌else◌, Result, Ok, Err}
 use Rattle.std.proofs.Math.ListN.{get_or-map}
 use Rattle.std.proofs.lemmas.Bool.{cases_Bool}
@@ -14,8 +14,8 @@ use Rattle.cbsrun_simulate.specs.Loading.{loading, job_of}
 use Rattle.cbsrun_simulate.specs.Shown.{arrival_of}
 use Rattle.cbsrun_simulate.specs.declared.load_job.LoadJob.{LoadJob}
 use Rattle.cbsrun_simulate.specs.declared.release.Release.{Release}
-use Rattle.cbs_steps.specs.Accounts.{Account, need, finished, face_of, no_account, account_with_job}
-use Rattle.cbs_steps.specs.Accounts.{account_with_unit, account_with_charge, account_with_replenishment, account_let_go}
+use Rattle.cbs_steps.specs.Accounts.{Account, need, finished, face_of, no_account, account_with_job, account_with_unit, account_with_charge}
+use Rattle.cbs_steps.specs.Accounts.{account_with_replenishment, account_let_go}
 use Rattle.cbs_steps.specs.Faces.{view_of, is_ready, with_replenishment}
 use Rattle.cbs_steps.specs.History.{World, account, faces, chosen, ticks, let_go, after_submit, after_run, after_advance, after_charging, run_reply, unit_reply}
 use Rattle.cbs_steps.specs.OnTime.{IsAhead}
@@ -32,7 +32,7 @@ use Rattle.cbsrun_events.specs.Steps.{submit_seen, view_at, view_seen, seen_at}
 use Rattle.cbsrun_events.specs.declared.seen.Event.{Event}
 use Rattle.cbsrun_events.specs.declared.seen.Event.TheVariants as event
 use Rattle.cbsrun_events.specs.declared.seen.Seen.{Seen}
-use Rattle.cbsrun_runs.specs.Throttled.{is_waiting, shows}
+use Rattle.cbsrun_runs.specs.Loads.{is_waiting, shows}
 use Rattle.cbsrun_runs.proofs.Waits.{passed, ready_waits_not}
 
 module _ (s : ℕ) where

@@ -6,7 +6,7 @@ use Rattle.std.proofs.lemmas.Bool.Decides.{nat_tests}
 use Rattle.cbsrun_figures.specs.Figures.{one_if, waited}
 use Rattle.cbs_steps.specs.Faces.{Face, is_ready, with_replenishment, view_of}
 use Rattle.cbs_steps.specs.OnTime.{IsAhead}
-use Rattle.cbsrun_runs.specs.Throttled.{is_waiting, count_ticks}
+use Rattle.cbsrun_runs.specs.Loads.{is_waiting, count_ticks}
 
 -- what is shown after n ticks from tick c
 abbrev pub passed : ℕ → ℕ → Face → Face

@@ -1,10 +1,6 @@
-pub mod Throttled
-pub mod Runs
 pub mod Loads
+pub mod Runs
 pub mod Tasks
-pub mod FileLaws
-pub mod Showing
-pub mod Kept
 -- what the clauses name of the libraries below
 pub use Rattle.cbs_core.specs.Agreement
 pub use Rattle.cbs_job.specs.FileJobs

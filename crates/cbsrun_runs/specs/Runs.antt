@@ -1,5 +1,6 @@
 -- A run that can be shown, and the report and the picture of it.
-use Rattle.std.specs.Prelude.{◌≡◌, ℕ, ◌<◌, List, length, map, sum_by, slice_get, string_bytes, Option, Some}
+use Rattle.std.specs.Prelude.{◌≡◌, ◌⊎◌, List, ◌++◌, ℕ, ◌<◌, length, map, sum_by, slice_get, string_bytes, Option, Some}
+use Rattle.cbsrun_events.specs.declared.seen.Seen.{Seen}
 use Rattle.cbsrun_chart.specs.Charts.{IsChart}
 use Rattle.cbsrun_chart.specs.Ticks.{AreInTurn}
 use Rattle.cbsrun_chart.specs.declared.chart.Chart.{Chart}
@@ -12,7 +13,14 @@ use Rattle.cbsrun_figures.specs.Figures.{AreFigures, steps_of, told, total}
 use Rattle.cbsrun_figures.specs.Tallies.{ticks_idle}
 use Rattle.cbs_rules.specs.declared.mode.Mode.{Mode}
 use Rattle.cbsrun_simulate.specs.Bounds.{Bounds}
-use Rattle.cbsrun_events.specs.declared.seen.Seen.{Seen}
+
+-- the steps stand with the newest first. The view saw the first of them, up to some step, or it failed to see the last
+-- of these
+pub record SawSome {S : Type 0} (saw failed : S → S → List Seen → Type 0) (first now : S) (steps : List Seen) : Type 0 where
+  pub later : List Seen
+  pub done : List Seen
+  pub all : later ++ done ≡ steps
+  pub seen : saw first now done ⊎ failed first now done
 
 -- a run: the names, the modes and the plan of its servers, their backlog, and the seed of its numbers, if some are drawn;
 -- within how many ticks the jobs of each server are to be finished; the steps as a view sees them, the newest first, and

@@ -9,7 +9,7 @@ use Rattle.cbs_job.specs.declared.file.FileJob.{FileJob}
 use Rattle.cbs_rules.specs.Setups.{ModedPlan}
 use Rattle.cbs_steps.specs.Continuations.{◌⊕⊕◌}
 use Rattle.cbs_steps.specs.History.{World, History, ◌⊕◌, faces, world_after, reply_in}
-use Rattle.cbs_steps.specs.Laws.{account_in, completions_of, replies_after, Completes}
+use Rattle.cbs_steps.specs.Laws.{account_in, completions_of, replies_after, Completes, NoneAfterClose}
 use Rattle.cbs_steps.specs.Setups.{terms_of}
 use Rattle.cbs_steps.specs.declared.reply.Reply.{Reply}
 use Rattle.cbs_steps.specs.declared.step.Step.{Step}
@@ -20,6 +20,7 @@ use Rattle.cbsrun_events.specs.declared.seen.Event.{Event}
 use Rattle.cbsrun_events.specs.declared.seen.Event.TheVariants as event
 use Rattle.cbsrun_events.specs.declared.seen.Seen.{Seen}
 use Rattle.cbsrun_runs.specs.Runs.{Shown}
+use Rattle.cbs_steps.specs.Punctual.{IsPunctual}
 
 -- a job that is submitted at a tick. There is no number of ticks within which it is to be finished
 abbrev pub task_arrival : ℕ → ℕ → ℕ → Arrival
@@ -127,3 +128,10 @@ run_of_tasks f = record {
   seen = seen_in_tasks f;
   end = clock_of_tasks f;
 }
+
+-- The completions of each server are so over all steps of the file. After a close of a server no submit to it is
+-- accepted. The laws on time hold.
+pub record KeepsLaws (f : File) : Type 0 where
+  pub completions : (s : ℕ) → CompletesAll (start_of_tasks f) f.steps s
+  pub closes : (s : ℕ) → NoneAfterClose s (account_in of_files (start_of_tasks f) s).closed f.steps (replies_after of_files (start_of_tasks f) f.steps)
+  pub punctual : IsPunctual of_files (start_of_tasks f ⊕⊕ f.steps)

@@ -2,8 +2,7 @@
 
 ghost use Rattle.std.specs.Prelude.{[], OnOk, OnErr};
 ghost use Rattle.cbsrun_runs.specs.Loads.{AreThrottled, run_of, seen_in};
-ghost use Rattle.cbsrun_runs.specs.Runs.{AreInOrder};
-ghost use Rattle.cbsrun_runs.specs.Showing.{SawSome};
+ghost use Rattle.cbsrun_runs.specs.Runs.{AreInOrder, SawSome};
 
 use cbsrun_events::View;
 use cbsrun_loads::Load;

@@ -1,8 +1,7 @@
 //! A task file as a run: its steps are made again.
 
 ghost use Rattle.std.specs.Prelude.{◌≡◌, IfOk};
-ghost use Rattle.cbsrun_runs.specs.FileLaws.{KeepsLaws};
-ghost use Rattle.cbsrun_runs.specs.Tasks.{clock_of_tasks, run_of_tasks};
+ghost use Rattle.cbsrun_runs.specs.Tasks.{KeepsLaws, clock_of_tasks, run_of_tasks};
 
 use crate::run::Run;
 use crate::task_steps::show_steps;

@@ -2,8 +2,7 @@
 
 ghost use Rattle.std.specs.Prelude.{◌≡◌, ◌≤◌, ◌<◌, IfOk, OnOk, length, map, slice_get, string_bytes, Some};
 ghost use Rattle.std.specs.Bool.{OnTrue};
-ghost use Rattle.cbsrun_figures.specs.Figures.{told, total};
-ghost use Rattle.cbsrun_figures.specs.Reports.{AreAllFigures};
+ghost use Rattle.cbsrun_figures.specs.Figures.{told, total, AreAllFigures};
 ghost use Rattle.cbsrun_figures.specs.Tallies.{ticks_idle};
 ghost use Rattle.cbsrun_runs.specs.Runs.{IsReportOf, SameServers};
 

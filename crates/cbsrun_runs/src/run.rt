@@ -2,8 +2,7 @@
 
 ghost use Rattle.std.specs.Prelude.{◌≡◌, ◌<◌, [], Bool, false, IfOk, IfSome, OnErr, OnOk, Some, length, slice_get, string_bytes};
 ghost use Rattle.std.specs.Bool.{OnTrue};
-ghost use Rattle.cbsrun_runs.specs.Runs.{Shown, AreInOrder, HasServers, SameServers};
-ghost use Rattle.cbsrun_runs.specs.Showing.{SawSome};
+ghost use Rattle.cbsrun_runs.specs.Runs.{Shown, AreInOrder, HasServers, SameServers, SawSome};
 
 use cbs_rate::Plan;
 use cbs_rules::Modes;

@@ -1,8 +1,7 @@
 //! A load as a run: its jobs are simulated.
 
 ghost use Rattle.std.specs.Prelude.{true};
-ghost use Rattle.cbsrun_runs.specs.Kept.{IsKept};
-ghost use Rattle.cbsrun_runs.specs.Loads.{run_of};
+ghost use Rattle.cbsrun_runs.specs.Loads.{IsKept, run_of};
 
 use crate::load_steps::show_load;
 use crate::run::Run;

@@ -7,10 +7,8 @@ use Rattle.std.proofs.lemmas.Bool.Decides.{nat_tests}
 use Rattle.rand_pcg.specs.Lcg.{Lcg}
 use Rattle.cbs_lists.proofs.Lists.{AllByRecursion-weaker}
 use Rattle.cbsrun_simulate.specs.Drawing.{drawn, release_of, released, released_by, released_by_all}
-use Rattle.cbsrun_simulate.specs.Ordering.{order_from, order_merged}
+use Rattle.cbsrun_simulate.specs.Merging.{order_from, order_merged, ordered_released, put, put_all, merged}
 use Rattle.cbsrun_simulate.specs.Releases.{IsInOrder}
-use Rattle.cbsrun_simulate.specs.SourceOrder.{ordered_released}
-use Rattle.cbsrun_simulate.specs.Merging.{put, put_all, merged}
 use Rattle.cbsrun_simulate.specs.declared.release.Release.{Release}
 use Rattle.cbsrun_simulate.specs.declared.terms.SourceTerms.{SourceTerms}
 use Rattle.cbsrun_simulate.specs.Released.{HasRanges, IsOfTerms, IsOfSource, IsLater, AreApart, least_every}

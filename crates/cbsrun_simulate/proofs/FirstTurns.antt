@@ -1,14 +1,13 @@
 -- The first release of several sources, by the first turn.
-use Rattle.std.proofs.Common.{◌≡◌, ◌≢◌, ℕ, zero, suc, ◌+◌, ◌/◌, ◌≤◌, ◌<◌, true, ltb, List, [], ◌∷◌, length}
-use Rattle.std.proofs.Common.{get_or, refl, subst, ◌∙◌, ap, arith, inl, inr, Option, Some, None}
+use Rattle.std.proofs.Common.{◌≡◌, ◌≢◌, ℕ, zero, suc, ◌+◌, ◌/◌, ◌≤◌, ◌<◌, true, ltb, List, [], ◌∷◌, length, get_or, refl, subst, ◌∙◌, ap, arith, inl, inr}
+use Rattle.std.proofs.Common.{Option, Some, None}
 use Rattle.std.specs.Option.{option_map}
 use Rattle.std.specs.Prelude.{slice_get}
 use Rattle.std.specs.List.{AllByRecursion}
 use Rattle.std.proofs.lemmas.Bool.{cases_lt}
 use Rattle.std.proofs.lemmas.Bool.Decides.{nat_tests}
 use Rattle.cbs_rules.specs.Rules.{clock_end}
-use Rattle.cbsrun_simulate.specs.Merging.{merged, IsFirst}
-use Rattle.cbsrun_simulate.specs.Ordering.{order_merged}
+use Rattle.cbsrun_simulate.specs.Merging.{merged, IsFirst, order_merged}
 use Rattle.cbsrun_simulate.specs.Releases.{IsInOrder}
 use Rattle.cbsrun_simulate.specs.Turns.{never, turn_of, due_of, node, next_of, IsTree, HasTurns}
 use Rattle.cbsrun_simulate.specs.declared.release.Release.{Release}

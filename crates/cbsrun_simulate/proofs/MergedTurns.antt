@@ -1,6 +1,6 @@
 -- Several sources, and the tree of their turns.
-use Rattle.std.proofs.Common.{◌≡◌, ◌≢◌, ℕ, ◌+◌, ◌*◌, ◌/◌, ◌<◌, List, [], ◌∷◌, length, map, get_or, refl, sym}
-use Rattle.std.proofs.Common.{subst, ◌∙◌, ap, arith, inl, inr, Option, Some, None}
+use Rattle.std.proofs.Common.{◌≡◌, ◌≢◌, ℕ, ◌+◌, ◌*◌, ◌/◌, ◌<◌, List, [], ◌∷◌, length, map, get_or, refl, sym, subst, ◌∙◌, ap, arith, inl, inr, Option, Some}
+use Rattle.std.proofs.Common.{None}
 use Rattle.std.specs.Option.{option_map}
 use Rattle.std.specs.Prelude.{slice_get, slice_set, drop, IfSome}
 use Rattle.std.proofs.lemmas.Bool.{cases_eq}
@@ -9,8 +9,7 @@ use Rattle.std.proofs.lemmas.Option.{get_or_from_slice_get}
 use Rattle.cbs_rules.specs.Rules.{clock_end}
 use Rattle.cbs_lists.specs.Lists.{changed_at}
 use Rattle.cbs_lists.proofs.Lists.{changed_elsewhere}
-use Rattle.cbsrun_simulate.specs.Merging.{merged}
-use Rattle.cbsrun_simulate.specs.Ordering.{all_ordered}
+use Rattle.cbsrun_simulate.specs.Merging.{merged, all_ordered}
 use Rattle.cbsrun_simulate.specs.Releases.{IsInOrder}
 use Rattle.cbsrun_simulate.specs.Turns.{turn_of, due_of, node, next_of, IsTree, SetsLeaf, HasTurns}
 use Rattle.cbsrun_simulate.specs.declared.release.Release.{Release}

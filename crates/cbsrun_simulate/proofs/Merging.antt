@@ -4,8 +4,7 @@ use Rattle.std.specs.Prelude.{drop, map, slice_set, get_or}
 use Rattle.std.proofs.lemmas.Bool.Decides.{nat_tests}
 use Rattle.std.proofs.lemmas.List.{get_or-map}
 use Rattle.cbs_lists.specs.Lists.{changed_at}
-use Rattle.cbsrun_simulate.specs.Merging.{put, put_all, merged, IsFirst}
-use Rattle.cbsrun_simulate.specs.Ordering.{order_from, order_put_all}
+use Rattle.cbsrun_simulate.specs.Merging.{put, put_all, merged, IsFirst, order_from, order_put_all}
 use Rattle.cbsrun_simulate.specs.Releases.{IsInOrder}
 use Rattle.cbsrun_simulate.specs.declared.release.Release.{Release}
 

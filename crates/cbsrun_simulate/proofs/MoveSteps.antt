@@ -8,10 +8,10 @@ use Rattle.cbs_rules.specs.Rules.{clock_end}
 use Rattle.cbs_steps.specs.History.{World, History, faces, charge_refusal, world_after}
 use Rattle.cbs_steps.specs.Quiet.{IsAtRest, IsIdleSpan}
 use Rattle.cbs_steps.proofs.Running.{not_refused}
-use Rattle.cbsrun_simulate.specs.Moves.{Move, submit, charge, move_on, idle_span, next_free, coming_after, submitted_by, charged_by, Simulation}
-use Rattle.cbsrun_simulate.specs.Moves.{clock_of, after_move, owing_after}
+use Rattle.cbsrun_simulate.specs.Moves.{Move, submit, charge, move_on, idle_span, next_free, coming_after, submitted_by, charged_by, Simulation, clock_of}
+use Rattle.cbsrun_simulate.specs.Moves.{after_move, owing_after}
 use Rattle.cbsrun_simulate.specs.MoveLaws.{IsOnTick, owed_before, MovesQuietly, ChargesOwed, IsGranted, since_after}
-use Rattle.cbsrun_simulate.specs.Ordering.{order_from}
+use Rattle.cbsrun_simulate.specs.Merging.{order_from}
 use Rattle.cbsrun_simulate.specs.Releases.{IsInOrder, before}
 use Rattle.cbsrun_simulate.specs.declared.charge.Charge.{Charge}
 use Rattle.cbsrun_simulate.specs.declared.release.Release.{Release}

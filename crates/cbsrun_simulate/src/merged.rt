@@ -51,8 +51,7 @@ impl<S: Releases + Drop, A: Allocator> Merged<S, A> {
 
 impl<S: Releases + Drop, A: Allocator> Releases for Merged<S, A> {
     ghost use Rattle.std.specs.Prelude.{map};
-    ghost use Rattle.cbsrun_simulate.specs.Merging.{merged};
-    ghost use Rattle.cbsrun_simulate.specs.Ordering.{merged_ordered};
+    ghost use Rattle.cbsrun_simulate.specs.Merging.{merged, merged_ordered};
 
     ghost coming = { λ m. merged (map S.coming m) };
 

@@ -79,7 +79,7 @@ impl Source {
 
 impl Releases for Source {
     ghost use Rattle.cbsrun_simulate.specs.Drawing.{pending};
-    ghost use Rattle.cbsrun_simulate.specs.SourceOrder.{ordered_source};
+    ghost use Rattle.cbsrun_simulate.specs.Merging.{ordered_source};
 
     ghost coming = { pending };
 

@@ -1,6 +1,5 @@
 -- What is promised for a server with one source is kept by each move of a load's simulation, though its units overrun.
-use Rattle.std.proofs.Common.{◌≡◌, ℕ, zero, suc, ◌+◌, ◌*◌, ◌≤◌, ◌<◌, List, [], ◌∷◌, length, map, get_or, arith, refl, sym, ap, ◌∙◌}
-use Rattle.std.proofs.Common.{Some, None}
+use Rattle.std.proofs.Common.{◌≡◌, ℕ, zero, suc, ◌+◌, ◌*◌, ◌≤◌, ◌<◌, List, [], ◌∷◌, length, map, get_or, arith, refl, sym, ap, ◌∙◌, Some, None}
 use Rattle.std.specs.Prelude.{slice_get, option_map}
 use Rattle.std.specs.List.{AllByRecursion}
 use Rattle.std.proofs.lemmas.List.Sums.{sum_by-cons}
@@ -32,12 +31,13 @@ use Rattle.cbsrun_simulate.proofs.Apart.{least_at, all_in_order}
 use Rattle.cbsrun_simulate.proofs.Bounded.{bounded_new}
 use Rattle.cbsrun_simulate.proofs.MoveSteps.{IsGoing}
 use Rattle.cbsrun_simulate.proofs.Simulations.{moves_are}
-use Rattle.cbsrun_sizing.specs.Kept.{IsKeptMove}
+use Rattle.cbsrun_sizing.specs.Lateness.{IsKeptMove}
 use Rattle.cbsrun_sizing.specs.ServerLoads.{at_most, held, sources_of, most_charged, most_passed, delay_of, delay_from_release}
 use Rattle.cbsrun_sizing.proofs.AloneMoves.{IsAloneRelease, IsGivenAlone, IsAloneKept, no_place, alone_moves}
 use Rattle.cbsrun_sizing.proofs.KeptLoads.{reservation_at, free_at, at_place, others_within, lawful_sources, releases_are, releases_apart, overruns_within}
 use Rattle.cbsrun_sizing.proofs.LateServers.{as_many}
-use Rattle.cbsrun_sizing.proofs.OwnSources.{place_of, own, own_at, own_releases, IsOwnSource, places_apart, passed_more, charged_most, all_own_sources, tick_at, ticks_grow, numbered}
+use Rattle.cbsrun_sizing.proofs.OwnSources.{place_of, own, own_at, own_releases, IsOwnSource, places_apart, passed_more, charged_most, all_own_sources, tick_at}
+use Rattle.cbsrun_sizing.proofs.OwnSources.{ticks_grow, numbered}
 
 -- the one element of a list
 pub only_one : {X : Type 0} (x y : X) (i : ℕ) → slice_get (x ∷ []) i ≡ Some y → (i ≡ 0) × (x ≡ y)

@@ -1,6 +1,6 @@
 -- Each move of a simulation keeps what is promised for a server with one source, whose units may overrun.
-use Rattle.std.proofs.Common.{◌≡◌, ◌≢◌, ℕ, ◌+◌, ◌-◌, ◌*◌, ◌≤◌, ◌<◌, true, false, eqb, leb, ltb, List, [], ◌∷◌, ◌++◌, length, map, drop, get_or, arith, refl, sym, ap}
-use Rattle.std.proofs.Common.{subst, ◌∙◌, inl, inr, Some, None}
+use Rattle.std.proofs.Common.{◌≡◌, ◌≢◌, ℕ, ◌+◌, ◌-◌, ◌*◌, ◌≤◌, ◌<◌, true, false, eqb, leb, ltb, List, [], ◌∷◌, ◌++◌, length, map, drop, get_or, arith, refl}
+use Rattle.std.proofs.Common.{sym, ap, subst, ◌∙◌, inl, inr, Some, None}
 use Rattle.std.specs.List.{AllByRecursion}
 use Rattle.std.proofs.lemmas.Bool.{cases_Bool, cases_lt}
 use Rattle.std.proofs.lemmas.Bool.Decides.{nat_tests}
@@ -28,20 +28,20 @@ use Rattle.cbs_steps.specs.declared.reply.Ran.TheVariants as ran
 use Rattle.cbs_steps.specs.declared.step.Step.{Step}
 use Rattle.cbs_steps.specs.declared.step.Step.TheVariants.{Submit, Run, Advance, Charge}
 use Rattle.cbs_steps.proofs.Promises.{submitted}
-use Rattle.cbsrun_simulate.specs.Ordering.{order_from}
+use Rattle.cbsrun_simulate.specs.Merging.{order_from}
 use Rattle.cbs_lists.proofs.Lists.{AllByRecursion-weaker}
 use Rattle.cbsrun_sizing.proofs.Counted.{finished_same, run_here}
 use Rattle.cbs_job.specs.Work.{whole}
-use Rattle.cbs_guarantee.proofs.Steps.{clock_grows}
+use Rattle.cbs_guarantee.proofs.Steps.{clock_grows, jobs_given, by_step}
 use Rattle.cbs_guarantee.specs.Guarantees.{IsGuaranteed}
 use Rattle.cbs_guarantee.specs.Late.{AreInOrder}
 use Rattle.cbs_guarantee.specs.Overruns.{units_before, opens_after, AreOverruns, IsAlone}
 use Rattle.cbs_guarantee.specs.Streams.{span_of, jobs_of}
-use Rattle.cbs_guarantee.proofs.Steps.{jobs_given, by_step}
 use Rattle.cbs_guarantee.proofs.Streams.{reserved, reserved_after}
-use Rattle.cbsrun_sizing.specs.Kept.{IsKeptMove}
+use Rattle.cbsrun_sizing.specs.Lateness.{IsKeptMove}
 use Rattle.cbsrun_sizing.proofs.KeptMoves.{AreNumbered}
-use Rattle.cbsrun_sizing.proofs.ServerMoves.{count_of, run_same, advance_same, charge_same, shut, count, submit_shut, submit_elsewhere, charge_most, found, done_is, done_there, chosen_owes}
+use Rattle.cbsrun_sizing.proofs.ServerMoves.{count_of, run_same, advance_same, charge_same, shut, count, submit_shut, submit_elsewhere, charge_most, found}
+use Rattle.cbsrun_sizing.proofs.ServerMoves.{done_is, done_there, chosen_owes}
 
 -- no place is told apart
 abbrev pub no_place : ℕ → ℕ

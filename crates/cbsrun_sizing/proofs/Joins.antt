@@ -15,8 +15,7 @@ use Rattle.cbs_rate.specs.Rate.{Rate}
 use Rattle.cbs_rate.proofs.Lists.{AllByRecursion-push, AllByRecursion-from_push}
 use Rattle.cbs_rate.proofs.Multiples.{common-dvd, some_from_dvd}
 use Rattle.cbs_guarantee.specs.declared.source.Source.{Source}
-use Rattle.cbsrun_sizing.specs.Asked.{demand, demands, AreTooFine}
-use Rattle.cbsrun_sizing.specs.Joined.{IsJoined, IsJoinedTooFine}
+use Rattle.cbsrun_sizing.specs.Asked.{demand, demands, AreTooFine, IsJoined, IsJoinedTooFine}
 use Rattle.cbsrun_sizing.specs.declared.asked.Asked.{Asked}
 use Rattle.cbsrun_sizing.proofs.Removed.{all_take}
 

@@ -1,6 +1,6 @@
 -- What is promised for a server of a load whose units never overrun is kept by each move of the load's simulation.
-use Rattle.std.proofs.Common.{◌≡◌, ℕ, zero, suc, ◌+◌, ◌*◌, ◌≤◌, ◌<◌, false, eqb, List, [], ◌∷◌, length, map, get_or, arith, refl, sym, subst, ◌∙◌}
-use Rattle.std.proofs.Common.{inl, inr, Some, None}
+use Rattle.std.proofs.Common.{◌≡◌, ℕ, zero, suc, ◌+◌, ◌*◌, ◌≤◌, ◌<◌, false, eqb, List, [], ◌∷◌, length, map, get_or, arith, refl, sym, subst, ◌∙◌, inl, inr}
+use Rattle.std.proofs.Common.{Some, None}
 use Rattle.std.specs.Prelude.{slice_get}
 use Rattle.std.specs.List.{AllByRecursion, sum_by}
 use Rattle.std.proofs.lemmas.Bool.{cases_Bool}
@@ -37,11 +37,12 @@ use Rattle.cbsrun_simulate.proofs.Apart.{merged_are, merged_apart, least_at, all
 use Rattle.cbsrun_simulate.proofs.Bounded.{bounded_new}
 use Rattle.cbsrun_simulate.proofs.MoveSteps.{IsGoing}
 use Rattle.cbsrun_simulate.proofs.Simulations.{moves_are}
-use Rattle.cbsrun_sizing.specs.Kept.{IsKeptMove}
+use Rattle.cbsrun_sizing.specs.Lateness.{IsKeptMove}
 use Rattle.cbsrun_sizing.specs.ServerLoads.{at_most, held, sources_of, most_charged, all_charges, most_passed, delay_of, delay_from_release}
 use Rattle.cbsrun_sizing.proofs.KeptMoves.{IsOwn, IsGiven, IsKept, kept_moves}
 use Rattle.cbsrun_sizing.proofs.LateServers.{as_many, spared}
-use Rattle.cbsrun_sizing.proofs.OwnSources.{place_of, own, own_releases, IsOwnSource, stream_at, places_apart, none_more, charged_at, passed_more, tick_at, ticks_grow, numbered}
+use Rattle.cbsrun_sizing.proofs.OwnSources.{place_of, own, own_releases, IsOwnSource, stream_at, places_apart, none_more, charged_at, passed_more, tick_at}
+use Rattle.cbsrun_sizing.proofs.OwnSources.{ticks_grow, numbered}
 
 -- the server of a plan has the reservation of its place
 pub reservation_at : (modes : List Mode) (rates : List Rate) (s : ℕ) → length modes ≡ length rates

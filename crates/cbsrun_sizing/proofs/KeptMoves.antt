@@ -1,6 +1,6 @@
 -- Each move of a simulation keeps what is promised for a server whose units never overrun.
-use Rattle.std.proofs.Common.{◌≡◌, ◌≢◌, ℕ, ◌+◌, ◌≤◌, ◌<◌, true, false, eqb, List, [], ◌∷◌, ◌++◌, length, drop, get_or, arith, refl}
-use Rattle.std.proofs.Common.{sym, ap, subst, ◌∙◌, inl, inr, None}
+use Rattle.std.proofs.Common.{◌≡◌, ◌≢◌, ℕ, ◌+◌, ◌≤◌, ◌<◌, true, false, eqb, List, [], ◌∷◌, ◌++◌, length, drop, get_or, arith, refl, sym, ap, subst, ◌∙◌, inl}
+use Rattle.std.proofs.Common.{inr, None}
 use Rattle.std.specs.Prelude.{if◌then◌else◌}
 use Rattle.std.specs.List.{AllByRecursion}
 use Rattle.std.proofs.Math.ListN.{get_or-map}
@@ -36,8 +36,9 @@ use Rattle.cbsrun_simulate.proofs.Bounded.{IsBounded, charge_bounded, bounded_mo
 use Rattle.cbsrun_simulate.proofs.Clocks.{submit-now}
 use Rattle.cbsrun_simulate.proofs.MoveSteps.{IsGoing, MovesWell}
 use Rattle.cbsrun_simulate.proofs.Simulations.{well_next}
-use Rattle.cbsrun_sizing.specs.Kept.{IsKeptMove}
-use Rattle.cbsrun_sizing.proofs.ServerMoves.{count_of, run_same, advance_same, charge_same, shut, count, submit_shut, submit_elsewhere, charge_most, found, done_there}
+use Rattle.cbsrun_sizing.specs.Lateness.{IsKeptMove}
+use Rattle.cbsrun_sizing.proofs.ServerMoves.{count_of, run_same, advance_same, charge_same, shut, count, submit_shut, submit_elsewhere, charge_most, found}
+use Rattle.cbsrun_sizing.proofs.ServerMoves.{done_there}
 
 -- the first of released jobs
 released_front : (setup : Setup) (s : ℕ) (released : ℕ → ℕ) (rates : List Rate) (of : ℕ → ℕ) (passed : ℕ) (K L : List (Step LoadJob))

@@ -1,6 +1,6 @@
 -- The sources of one server: their places among its streams, and what they may overrun.
-use Rattle.std.proofs.Common.{◌≡◌, ◌≢◌, ℕ, zero, suc, ◌+◌, ◌≤◌, ◌<◌, true, false, eqb, List, [], ◌∷◌, length, map, take, get_or, arith, refl, sym, ap, ◌∙◌}
-use Rattle.std.proofs.Common.{inl, inr, Some}
+use Rattle.std.proofs.Common.{◌≡◌, ◌≢◌, ℕ, zero, suc, ◌+◌, ◌≤◌, ◌<◌, true, false, eqb, List, [], ◌∷◌, length, map, take, get_or, arith, refl, sym, ap, ◌∙◌, inl}
+use Rattle.std.proofs.Common.{inr, Some}
 use Rattle.std.specs.Prelude.{slice_get, option_map, max, if◌then◌else◌}
 use Rattle.std.specs.List.{AllByRecursion, filter, fold}
 use Rattle.std.proofs.lemmas.Bool.{cases_Bool, cases_lt}
@@ -9,7 +9,7 @@ use Rattle.std.proofs.lemmas.Option.{slice_get-map}
 use Rattle.cbs_rate.specs.Rate.{Rate}
 use Rattle.cbs_guarantee.specs.Sources.{stream_of, streams_of}
 use Rattle.cbsrun_simulate.specs.Releases.{IsInOrder}
-use Rattle.cbsrun_simulate.specs.Ordering.{order_from}
+use Rattle.cbsrun_simulate.specs.Merging.{order_from}
 use Rattle.cbsrun_simulate.specs.declared.release.Release.{Release}
 use Rattle.cbsrun_simulate.specs.declared.terms.SourceTerms.{SourceTerms}
 use Rattle.cbsrun_sizing.specs.ServerLoads.{held, at_most, sources_of}

@@ -11,7 +11,7 @@ use Rattle.cbsrun_simulate.specs.MoveLaws.{AllMoves}
 use Rattle.cbsrun_simulate.specs.Moves.{Simulation, moves_of}
 use Rattle.cbsrun_simulate.specs.declared.load_job.LoadJob.{LoadJob}
 use Rattle.cbs_steps.specs.Setups.{terms_of}
-use Rattle.cbsrun_sizing.specs.Kept.{IsKeptMove}
+use Rattle.cbsrun_sizing.specs.Lateness.{IsKeptMove}
 use Rattle.cbsrun_sizing.specs.ServerLoads.{sources_of, delay_from_release}
 use Rattle.cbsrun_sizing.proofs.AloneLoads.{alone_load_kept}
 use Rattle.cbsrun_sizing.proofs.KeptLoads.{load_kept}

@@ -1,5 +1,5 @@
 -- The greatest demand of sources, all together, as an exact share of the time.
-use Rattle.std.specs.Prelude.{◌≡◌, ℕ, ◌*◌, ◌≤◌, ◌<◌, List, map}
+use Rattle.std.specs.Prelude.{◌≡◌, ℕ, ◌*◌, ◌≤◌, ◌<◌, List, map, ◌+◌, ◌/◌}
 use Rattle.std.specs.List.{sum_by}
 use Rattle.cbs_rate.specs.Limits.{greatest_common_multiple, most_units}
 use Rattle.cbs_rate.specs.Plan.{share, IsCommonMultiple}
@@ -7,6 +7,7 @@ use Rattle.cbs_rate.specs.Rate.{Rate}
 use Rattle.cbs_guarantee.specs.declared.source.Source.{Source}
 use Rattle.cbsrun_loads.specs.Loads.{most_sources}
 use Rattle.cbsrun_sizing.specs.declared.asked.Asked.{Asked}
+use Rattle.std.specs.Int.{◌∣◌}
 
 -- the greatest demand of a source: the most units of a job, in the least ticks from one job to the next
 abbrev pub demand : Source → Rate
@@ -27,3 +28,16 @@ pub record IsAsked (sources : List Source) (a : Asked) : Type 0 where
 -- no common multiple of their periods is at most 10^18, which is the limit for exact sums
 abbrev pub AreTooFine : List Source → Type 0
 AreTooFine sources = (m : ℕ) → 0 < m → IsCommonMultiple m (demands sources) → greatest_common_multiple < m
+
+-- the demand and the source are added up over a common multiple, which divides every other common multiple
+pub record IsJoined (before : Asked) (source : Source) (after : Asked) : Type 0 where
+  pub some : 0 < after.of
+  pub coarse : after.of ≤ greatest_common_multiple
+  pub of : before.of ∣ after.of
+  pub every : source.every ∣ after.of
+  pub divides : (m : ℕ) → before.of ∣ m → source.every ∣ m → after.of ∣ m
+  pub ticks : after.ticks ≡ before.ticks * (after.of / before.of) + source.units * (after.of / source.every)
+
+-- no common multiple is at most 10^18
+abbrev pub IsJoinedTooFine : Asked → Source → Type 0
+IsJoinedTooFine before source = (m : ℕ) → 0 < m → before.of ∣ m → source.every ∣ m → greatest_common_multiple < m

@@ -1,8 +1,23 @@
 -- The greatest budget that each server of a plan could have.
-use Rattle.std.specs.Prelude.{◌≡◌, ℕ, ◌<◌, List, length, get_or}
-use Rattle.std.specs.List.{remove}
+use Rattle.std.specs.Prelude.{ℕ, ◌-◌, ◌*◌, Bool, false, leb, List, Option, Some, None, ◌≡◌, ◌<◌, length, get_or}
+use Rattle.std.specs.List.{sum_by, remove}
+use Rattle.cbs_rate.specs.Plan.{Planned, share, common_multiple, IsGreatestBudget}
+use Rattle.cbs_rate.specs.Rate.{Rate}
 use Rattle.cbs_guarantee.specs.Parts.{rate_at}
-use Rattle.cbs_rate.specs.Plan.{Planned, IsGreatestBudget}
+
+-- how many ticks all servers together may run in the least common multiple of their periods
+abbrev pub reserved : List Rate → ℕ
+reserved rates = sum_by (share (common_multiple rates)) rates
+
+-- what is left under the bound, in ticks. They are ticks of a span: `bound.den` times the least common multiple of all
+-- periods
+abbrev pub left_over : Planned → ℕ
+left_over plan = plan.bound.num * common_multiple plan.rates - plan.bound.den * reserved plan.rates
+
+-- a time is at most the wanted one, if a time is wanted
+abbrev pub is_within : ℕ → Option ℕ → Bool
+is_within time None = false
+is_within time (Some within) = leb time within
 
 -- the plan without server s
 abbrev pub without : Planned → ℕ → Planned

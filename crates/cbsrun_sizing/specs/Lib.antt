@@ -1,9 +1,6 @@
-pub mod Budgets
 pub mod Asked
-pub mod Joined
-pub mod ServerLoads
-pub mod Kept
+pub mod Budgets
 pub mod Lateness
-pub mod Shares
+pub mod ServerLoads
 -- what the clauses name of the libraries below
 pub use Rattle.cbs_rate.specs.Plan

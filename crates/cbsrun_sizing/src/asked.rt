@@ -3,8 +3,7 @@
 ghost use Rattle.std.specs.Prelude.{◌+◌, ◌*◌, ◌/◌, ◌≤◌, ◌<◌, length, All, MatchOption, IfSome};
 ghost use Rattle.cbs_rate.specs.Limits.{most_units};
 ghost use Rattle.cbsrun_loads.specs.Loads.{most_sources};
-ghost use Rattle.cbsrun_sizing.specs.Asked.{IsAsked, AreTooFine};
-ghost use Rattle.cbsrun_sizing.specs.Joined.{IsJoined, IsJoinedTooFine};
+ghost use Rattle.cbsrun_sizing.specs.Asked.{IsAsked, AreTooFine, IsJoined, IsJoinedTooFine};
 
 use crate::divisor::greatest_common_divisor;
 use cbs_guarantee::Source;

@@ -1,7 +1,7 @@
 //! What a plan leaves of its bound, and whether a promise is what is wanted.
 
 ghost use Rattle.std.specs.Prelude.{◌≡◌};
-ghost use Rattle.cbsrun_sizing.specs.Shares.{left_over, is_within};
+ghost use Rattle.cbsrun_sizing.specs.Budgets.{left_over, is_within};
 
 use cbs_rate::Plan;
 

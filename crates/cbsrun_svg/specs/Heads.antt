@@ -1,6 +1,6 @@
 -- The words around the rows: the heading of a picture, its summary, and a sentence for each server.
-use Rattle.std.specs.Prelude.{ℕ, ◌+◌, ◌-◌, ◌*◌, ◌/◌, ◌%◌, Bool, false, ◌&&◌, eqb, leb, ltb, max}
-use Rattle.std.specs.Prelude.{if◌then◌else◌, List, [], ◌++◌, codes, count_by, decimal, length, sum_by, Option, Some, None}
+use Rattle.std.specs.Prelude.{ℕ, ◌+◌, ◌-◌, ◌*◌, ◌/◌, ◌%◌, Bool, false, ◌&&◌, eqb, leb, ltb, max, if◌then◌else◌, List, [], ◌++◌, codes, count_by, decimal}
+use Rattle.std.specs.Prelude.{length, sum_by, Option, Some, None}
 use Rattle.cbsrun_window.specs.Counts.{counts_of, told}
 use Rattle.cbsrun_chart.specs.declared.jobs.ChartJob.{ChartJob}
 use Rattle.cbsrun_chart.specs.declared.picture.Drawn.{Drawn}
@@ -9,7 +9,7 @@ use Rattle.cbsrun_window.specs.Windows.{ends_tick}
 use Rattle.cbsrun_window.specs.declared.window.Window.{Window}
 use Rattle.cbs_rate.specs.declared.bandwidth.Bandwidth.{Bandwidth}
 use Rattle.cbsrun_figures.specs.Figures.{exceeds}
-use Rattle.cbsrun_text.specs.Modes.{mode_word}
+use Rattle.cbsrun_text.specs.Numbers.{mode_word}
 use Rattle.cbsrun_svg.specs.Rows.{terms_text, units_of}
 
 -- the heading: the name of a file, and the ticks that are shown

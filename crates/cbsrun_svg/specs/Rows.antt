@@ -16,7 +16,7 @@ use Rattle.cbsrun_svg_shapes.specs.Shapes.{label_text, path_text, titled_text}
 use Rattle.cbsrun_svg_shapes.specs.Spans.{bar_class, late_text, pale_path, span_text}
 use Rattle.cbsrun_svg_shapes.specs.declared.columns.Layer.{Layer}
 use Rattle.cbsrun_svg_shapes.specs.declared.columns.Layer.TheVariants as layer
-use Rattle.cbsrun_text.specs.Modes.{mode_word}
+use Rattle.cbsrun_text.specs.Numbers.{mode_word}
 
 -- how many units ran in a window
 abbrev pub units_of : Window → ServerChart → ℕ

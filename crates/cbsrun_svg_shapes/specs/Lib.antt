@@ -1,6 +1,5 @@
 pub mod Axes
 pub mod Columns
-pub mod Escapes
 pub mod Layouts
 pub mod Marks
 pub mod Shapes

@@ -1,7 +1,7 @@
 //! Texts in XML.
 
 ghost use Rattle.std.specs.Prelude.{◌≡◌, ◌++◌, IfOk, OnOk, string_bytes};
-ghost use Rattle.cbsrun_svg_shapes.specs.Escapes.{escaped, escaped_byte};
+ghost use Rattle.cbsrun_svg_shapes.specs.Shapes.{escaped, escaped_byte};
 
 use std::alloc::{AllocError, Global};
 

@@ -1,4 +1,3 @@
-pub mod Bounds
 pub mod Documents
 pub mod Faults
 pub mod Fields

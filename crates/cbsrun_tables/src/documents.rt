@@ -4,7 +4,7 @@ ghost use Rattle.std.specs.Prelude.{◌≡◌, IfSome};
 ghost use Rattle.toml.specs.View.{table_view};
 ghost use Rattle.cbsrun_tables.specs.declared.fault.FileKind.TheVariants.{OutOfMemory};
 ghost use Rattle.cbsrun_tables.specs.declared.fault.Place.TheVariants.{Top};
-ghost use Rattle.cbsrun_tables.specs.Bounds.{IsBounded, result_of};
+ghost use Rattle.cbsrun_tables.specs.Memory.{IsBounded, result_of};
 ghost use Rattle.cbsrun_tables.specs.Documents.{document, faulty, at, no_memory};
 ghost use Rattle.cbsrun_tables.specs.Fields.{Gives};
 

@@ -2,8 +2,7 @@
 //! parsed.
 
 ghost use Rattle.std.specs.Prelude.{◌≡◌, ◌≤◌, ◌↔◌, IsTrue};
-ghost use Rattle.cbsrun_tables.specs.Memory.{byte_wants, memory_wanted};
-ghost use Rattle.cbsrun_tables.specs.Bounds.{result_of};
+ghost use Rattle.cbsrun_tables.specs.Memory.{byte_wants, memory_wanted, result_of};
 
 use crate::documents::faulty;
 use crate::fault::{FileFault, FileKind, Place};

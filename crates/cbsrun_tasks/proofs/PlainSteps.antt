@@ -1,6 +1,6 @@
 -- Tables that are read pair by pair, and the steps that they spell.
-use Rattle.std.proofs.Common.{◌≡◌, ℕ, pos, ◌+◌, ◌-◌, ◌*◌, ◌/◌, ◌%◌, ◌^◌, ◌≤◌, ◌<◌, ◌==◌, true, false, List}
-use Rattle.std.proofs.Common.{[], ◌∷◌, ◌++◌, codes, length, map, drop, Some, is_some, Ok, refl, ap, sym, ◌∙◌, arith, inl, inr}
+use Rattle.std.proofs.Common.{◌≡◌, ℕ, pos, ◌+◌, ◌-◌, ◌*◌, ◌/◌, ◌%◌, ◌^◌, ◌≤◌, ◌<◌, ◌==◌, true, false, List, [], ◌∷◌, ◌++◌, codes, length, map, drop, Some}
+use Rattle.std.proofs.Common.{is_some, Ok, refl, ap, sym, ◌∙◌, arith, inl, inr}
 use Rattle.std.proofs.lemmas.Bool.{cases_Bool}
 use Rattle.std.proofs.lemmas.Bool.Decides.{nat_tests}
 use Rattle.std.proofs.lemmas.Fmt.{decimal_step, decimal_digit, decimal_nonempty}
@@ -31,12 +31,10 @@ use Rattle.cbsrun_tables.specs.Fields.{list_of, number, each, each_from, with_ke
 use Rattle.cbsrun_tasks.specs.declared.terms.Terms.{Terms}
 use Rattle.cbsrun_tasks.specs.declared.plain.Layout.{Layout}
 use Rattle.cbsrun_tasks.specs.declared.plain.Layout.TheVariants.{Inline, Lines}
-use Rattle.cbsrun_tasks.specs.Entries.{job_of, step_entry, submit_entry, submit_fields, run_entry, advance_entry, close_entry}
-use Rattle.cbsrun_tasks.specs.Formats.{longest_advance}
+use Rattle.cbsrun_tasks.specs.Entries.{job_of, step_entry, submit_entry, submit_fields, run_entry, advance_entry, close_entry, longest_advance}
 use Rattle.cbsrun_tasks.proofs.StepsRead.{list_of-push}
-use Rattle.cbsrun_tasks.specs.Plain.{StartsPair, EndsLine, OpensTable, OpensLines, Opens, FollowsComma}
-use Rattle.cbsrun_tasks.specs.Plain.{FollowsLine, Follows, EndsTable, Ends, ReadsInline, ReadsLines, Reads}
-use Rattle.cbsrun_tasks.specs.Plain.{IsTable, under, IsValue, op_pair, EndsNumber, AreUnits, SpellsStep}
+use Rattle.cbsrun_tasks.specs.Plain.{StartsPair, EndsLine, OpensTable, OpensLines, Opens, FollowsComma, FollowsLine, Follows, EndsTable, Ends, ReadsInline}
+use Rattle.cbsrun_tasks.specs.Plain.{ReadsLines, Reads, IsTable, under, IsValue, op_pair, EndsNumber, AreUnits, SpellsStep}
 
 -- before `=` no bare key goes on
 bare_stops : (u : List ℕ) → (first (skip_ws u) == 61) ≡ true → is_bare (first u) ≡ false

@@ -1,6 +1,4 @@
 pub mod Entries
-pub mod Formats
-pub mod Kinds
 pub mod Plain
 pub mod Spelling
 pub mod Streams
@@ -8,7 +6,7 @@ pub mod TaskFiles
 pub mod TopTables
 -- what the clauses name of the libraries below
 pub use Rattle.cbs_rate.specs.Limits
-pub use Rattle.cbsrun_tables.specs.Bounds
+pub use Rattle.cbsrun_tables.specs.Memory
 pub use Rattle.cbsrun_tables.specs.Documents
 pub use Rattle.cbsrun_tables.specs.Fields
 pub use Rattle.cbsrun_tables.specs.declared.fault.FileKind

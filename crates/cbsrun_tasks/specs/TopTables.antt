@@ -11,7 +11,7 @@ use Rattle.cbsrun_tasks.specs.declared.format.Format.TheVariants.{One, Two}
 use Rattle.cbsrun_tasks.specs.declared.top.TopTable.{TopTable}
 use Rattle.cbsrun_tasks.specs.declared.top.TypedValues.{TypedValues}
 use Rattle.cbsrun_tables.specs.Fields.{◌>>=◌, with_keys, integer_at, text_at, items_at, pair_at, within, of_some}
-use Rattle.cbsrun_tasks.specs.Formats.{format_of}
+use Rattle.cbsrun_tasks.specs.Entries.{format_of}
 use Rattle.cbsrun_tables.specs.Plans.{bound_of, mode_of}
 
 -- the format of the file

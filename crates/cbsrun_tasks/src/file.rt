@@ -8,7 +8,7 @@ ghost use Rattle.cbsrun_tables.specs.declared.fault.FileKind.TheVariants.{OutOfM
 ghost use Rattle.cbsrun_tables.specs.declared.fault.Place.TheVariants.{Step as AtStep};
 ghost use Rattle.cbsrun_tasks.specs.Entries.{step_entry};
 ghost use Rattle.cbsrun_tables.specs.Fields.{Gives, seen, each_from};
-ghost use Rattle.cbsrun_tables.specs.Bounds.{IsBounded, result_of};
+ghost use Rattle.cbsrun_tables.specs.Memory.{IsBounded, result_of};
 ghost use Rattle.cbsrun_tasks.specs.Streams.{IsDocument};
 ghost use Rattle.cbsrun_tasks.specs.TaskFiles.{IsFileStep};
 ghost use Rattle.cbsrun_tasks.specs.Spelling.{file, file_in, admitted_entry};

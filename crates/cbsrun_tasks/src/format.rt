@@ -1,7 +1,7 @@
 //! The format of a task file, and what it decides.
 
 ghost use Rattle.std.specs.Prelude.{◌≡◌, ◌≤◌};
-ghost use Rattle.cbsrun_tasks.specs.Formats.{format_of, longest_advance};
+ghost use Rattle.cbsrun_tasks.specs.Entries.{format_of, longest_advance};
 ghost use Rattle.cbsrun_tables.specs.Plans.{mode_of};
 
 use cbs_rules::LIMIT;

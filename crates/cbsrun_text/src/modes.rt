@@ -1,7 +1,7 @@
 //! The words for the modes of servers.
 
 ghost use Rattle.std.specs.Prelude.{◌≡◌};
-ghost use Rattle.cbsrun_text.specs.Modes.{mode_word};
+ghost use Rattle.cbsrun_text.specs.Numbers.{mode_word};
 
 use cbs_rules::Mode;
 

@@ -1,4 +1,3 @@
 pub mod Grids
-pub mod Lines
 pub mod Signs
 pub mod Timelines

@@ -1,13 +1,71 @@
 -- The whole timeline.
-use Rattle.std.specs.Prelude.{ℕ, ltb, if◌then◌else◌, Bool, List, [], ◌++◌, codes, decimal, flat_map, string_bytes}
-use Rattle.std.specs.List.{list_any, range_with_len}
-use Rattle.cbsrun_window.specs.Counts.{counts_of}
+use Rattle.std.specs.Prelude.{ℕ, ◌+◌, ◌-◌, ◌*◌, ◌/◌, ◌%◌, eqb, if◌then◌else◌, List, [], ◌++◌, codes, decimal, flat_map, length, map, replicate, string_bytes}
+use Rattle.std.specs.Prelude.{ltb, Bool}
+use Rattle.std.specs.List.{range_with_len, list_any}
+use Rattle.std.specs.Str.{trim_end}
+use Rattle.cbsrun_chart.specs.declared.chart.ServerChart.{ServerChart}
 use Rattle.cbsrun_chart.specs.declared.picture.Drawn.{Drawn}
+use Rattle.cbsrun_timeline.specs.Grids.{GridSeen, tick_of, blocks_of, count_of, first_of, grid_of, is_fine}
+use Rattle.cbsrun_timeline.specs.Signs.{blank, column_mark, column_sign}
+use Rattle.cbsrun_window.specs.Counts.{counts_of}
 use Rattle.cbsrun_chart.specs.declared.picture.Picture.{Picture}
 use Rattle.cbsrun_window.specs.declared.window.Window.{Window}
-use Rattle.cbsrun_timeline.specs.Grids.{GridSeen, blocks_of, count_of, first_of, grid_of, is_fine}
-use Rattle.cbsrun_timeline.specs.Lines.{ruler_text, server_text}
 use Rattle.cbsrun_timeline.specs.declared.legend.TheConstants.{CHARGED_LEGEND, COLUMN_LEGEND, LEGEND}
+
+-- a text, and blanks after it up to the width
+unfoldable pub padded : ℕ → List ℕ → List ℕ
+padded width text = text ++ replicate (width - length text) 32
+
+-- the label before the columns: a name up to the width, and two blanks
+abbrev pub label_text : ℕ → List ℕ → List ℕ
+label_text width name = padded width name ++ codes "  "
+
+-- a line, without the white space at its end
+abbrev pub line_text : List ℕ → List ℕ
+line_text text = trim_end text ++ codes "\n"
+
+-- the number of the tick at which a numbered column begins, with blanks up to the next numbered column
+abbrev pub number_text : GridSeen → ℕ → ℕ → List ℕ
+number_text g first k = padded g.step (decimal (tick_of g (first + k * g.step)))
+
+unfoldable pub numbers_text : GridSeen → ℕ → ℕ → List ℕ
+numbers_text g first count = flat_map (number_text g first) (range_with_len 0 (count / g.step + 1))
+
+-- '|': each tenth column of a block
+abbrev pub tenth : ℕ
+tenth = 124
+
+-- ''': each fifth column of a block
+abbrev pub fifth : ℕ
+fifth = 39
+
+-- the mark at the beginning of a column: each tenth and each fifth column has one
+abbrev pub ruler_sign : ℕ → ℕ
+ruler_sign k = if eqb (k % 10) 0 then tenth else if eqb (k % 5) 0 then fifth else blank
+
+unfoldable pub ruler_marks : ℕ → List ℕ
+ruler_marks count = map ruler_sign (range_with_len 0 (count + 1))
+
+-- the ruler of a block: of `count` columns from the column `first` on, and of their end
+unfoldable pub ruler_text : GridSeen → ℕ → ℕ → List ℕ
+ruler_text g first count = line_text (label_text g.width [] ++ numbers_text g first count) ++ line_text (label_text g.width [] ++ ruler_marks count)
+
+-- the signs of what a server does in the columns of a block
+unfoldable pub signs_text : GridSeen → ServerChart → ℕ → ℕ → List ℕ
+signs_text g c first count = map (λ k. column_sign g c (first + k)) (range_with_len 0 count)
+
+-- the marks above the columns of a block
+unfoldable pub marks_text : GridSeen → ServerChart → ℕ → ℕ → List ℕ
+marks_text g c first count = map (λ k. column_mark g c (first + k)) (range_with_len 0 count)
+
+-- the marks as a line, if there are any
+unfoldable pub marks_line : ℕ → List ℕ → List ℕ
+marks_line width marks = if eqb (length (trim_end marks)) 0 then [] else line_text (label_text width [] ++ marks)
+
+-- the lines of a server in a block
+unfoldable pub server_text : GridSeen → ℕ → ℕ → Drawn → List ℕ
+server_text g first count d =
+    marks_line g.width (marks_text g d.chart first count) ++ line_text (label_text g.width (string_bytes d.name) ++ signs_text g d.chart first count)
 
 -- how many ticks a column has, if it has more than one
 unfoldable pub cell_text : GridSeen → List ℕ

@@ -1,7 +1,7 @@
 //! The lines of a server.
 
 ghost use Rattle.std.specs.Prelude.{◌≡◌, ◌≤◌, ◌++◌, IfOk, OnOk, string_bytes};
-ghost use Rattle.cbsrun_timeline.specs.Lines.{label_text, line_text, marks_line, marks_text, padded, server_text, signs_text};
+ghost use Rattle.cbsrun_timeline.specs.Timelines.{label_text, line_text, marks_line, marks_text, padded, server_text, signs_text};
 
 use crate::grid::Grid;
 use crate::signs::{column_mark, column_sign};

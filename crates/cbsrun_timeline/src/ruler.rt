@@ -1,7 +1,7 @@
 //! The ruler of a block.
 
 ghost use Rattle.std.specs.Prelude.{◌≡◌, ◌≤◌, ◌<◌, ◌++◌, OnOk, string_bytes};
-ghost use Rattle.cbsrun_timeline.specs.Lines.{number_text, numbers_text, ruler_marks, ruler_sign, ruler_text};
+ghost use Rattle.cbsrun_timeline.specs.Timelines.{number_text, numbers_text, ruler_marks, ruler_sign, ruler_text};
 
 use crate::grid::Grid;
 use crate::lines::{append_label, append_line, append_padded};

@@ -5,7 +5,7 @@ use Rattle.std.proofs.lemmas.List.{take_all}
 use Rattle.std.proofs.lemmas.List.Sorted.{list_any-IsPermutation}
 use Rattle.std.proofs.lemmas.Result.{IfOk-weaker}
 use Rattle.cbsrun_chart.specs.Jobs.{late_stretch}
-use Rattle.cbsrun_chart.specs.Rendered.{LateCovered}
+use Rattle.cbsrun_chart.specs.Charts.{LateCovered}
 use Rattle.cbsrun_window.specs.Stretches.{all_of, shows}
 use Rattle.cbsrun_window.specs.declared.stretch.Kind.TheVariants as kind
 use Rattle.cbsrun_chart.proofs.Covers.{cover_more, late_of_jobs}

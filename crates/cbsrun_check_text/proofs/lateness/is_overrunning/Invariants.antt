@@ -1,5 +1,5 @@
 use Rattle.std.proofs.Common.{◌≡◌, false, take}
-use Rattle.cbsrun_check_text.specs.Lateness.{is_overrunning}
+use Rattle.cbsrun_check_text.specs.Checks.{is_overrunning}
 use Rattle.cbsrun_check_text.proofs.lateness.is_overrunning.Given as goal
 
 abbrev pub invariant-loop-terms : goal.invariant-loop-terms

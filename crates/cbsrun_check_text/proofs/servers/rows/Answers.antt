@@ -1,7 +1,7 @@
 use Rattle.std.proofs.Common.{arith, string_bytes}
 use Rattle.std.proofs.lemmas.Grind.{common_steps}
 use Rattle.std.specs.Prelude.{map}
-use Rattle.cbsrun_check_text.specs.Servers.{servers_heading, row_at, servers_table}
+use Rattle.cbsrun_check_text.specs.Tables.{servers_heading, row_at, servers_table}
 use Rattle.cbsrun_check_text.proofs.Rows.{headed_more}
 use Rattle.cbsrun_check_text.proofs.servers.rows.Goals as goal
 

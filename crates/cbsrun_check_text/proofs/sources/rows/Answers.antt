@@ -1,6 +1,6 @@
 use Rattle.std.proofs.Common.{◌≡◌, ◌<◌, ap, ◌∙◌, get_or, length, arith}
 use Rattle.std.proofs.lemmas.Grind.{common_steps}
-use Rattle.cbsrun_check_text.specs.Sources.{sources_heading, row_of}
+use Rattle.cbsrun_check_text.specs.Tables.{sources_heading, row_of}
 use Rattle.cbsrun_check_text.proofs.Rows.{listed_more}
 use Rattle.cbsrun_check_text.proofs.sources.rows.Goals as goal
 

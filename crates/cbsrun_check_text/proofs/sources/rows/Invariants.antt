@@ -1,6 +1,6 @@
 use Rattle.std.proofs.Common.{◌≡◌, take}
 use Rattle.cbsrun_text.specs.Columns.{rows_of}
-use Rattle.cbsrun_check_text.specs.Sources.{sources_table}
+use Rattle.cbsrun_check_text.specs.Tables.{sources_table}
 use Rattle.cbsrun_check_text.proofs.sources.rows.Given as goal
 
 abbrev pub invariant-loop-terms : goal.invariant-loop-terms

@@ -2,7 +2,7 @@ use Rattle.std.proofs.Common.{◌∙◌, subst, sym, List, ℕ}
 use Rattle.std.proofs.lemmas.Result.{err_from_is_err_and}
 use Rattle.cbsrun_lines.proofs.Writers.{untouched}
 use Rattle.cbsrun_lines.specs.Writers.{IsUntouched}
-use Rattle.cbsrun_commands.specs.Checked.{IsCheckText}
+use Rattle.cbsrun_commands.specs.Outputs.{IsCheckText}
 use Rattle.cbsrun_commands.proofs.Endings.{stops_as}
 use Rattle.cbsrun_commands.proofs.check.check.Goals as goal
 

@@ -1,4 +1,4 @@
-use Rattle.cbsrun_commands.specs.Checked.{any_file, IsCheckText}
+use Rattle.cbsrun_commands.specs.Outputs.{any_file, IsCheckText}
 use Rattle.cbsrun_commands.specs.Commands.{printing_command}
 use Rattle.cbsrun_commands.proofs.Endings.{ends}
 use Rattle.cbsrun_commands.proofs.check.check_bytes_within.Goals as goal

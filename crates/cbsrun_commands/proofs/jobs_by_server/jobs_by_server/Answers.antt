@@ -3,8 +3,7 @@ use Rattle.std.proofs.lemmas.List.{append-nil, length-map, nil_from_length}
 use Rattle.std.proofs.lemmas.List.Elements.{All-tail}
 use Rattle.std.proofs.lemmas.List.FromFn.{fill_by_all}
 use Rattle.std.specs.Vec.Iter.{into_iter_items}
-use Rattle.cbsrun_commands.specs.ResultLines.{jobs_for}
-use Rattle.cbsrun_commands.specs.JobsByServer.{listed}
+use Rattle.cbsrun_commands.specs.ResultLines.{jobs_for, listed}
 use Rattle.cbsrun_tasks.specs.TaskFiles.{IsFileStep}
 use Rattle.cbsrun_commands.proofs.JobLists.{none_listed, lists_on}
 use Rattle.cbsrun_commands.proofs.jobs_by_server.jobs_by_server.Goals as goal

@@ -1,8 +1,7 @@
 use Rattle.std.proofs.Common.{◌≡◌, ℕ, ◌++◌, length}
 use Rattle.std.specs.Prelude.{All}
 use Rattle.std.specs.Vec.Iter.{into_iter_items, into_iter_len}
-use Rattle.cbsrun_commands.specs.ResultLines.{jobs_for}
-use Rattle.cbsrun_commands.specs.JobsByServer.{listed}
+use Rattle.cbsrun_commands.specs.ResultLines.{jobs_for, listed}
 use Rattle.cbsrun_tasks.specs.TaskFiles.{IsFileStep}
 use Rattle.cbsrun_commands.proofs.jobs_by_server.jobs_by_server.Given as goal
 

@@ -1,4 +1,4 @@
-use Rattle.cbsrun_commands.specs.Stepped.{lines_command}
+use Rattle.cbsrun_commands.specs.Outputs.{lines_command}
 use Rattle.cbsrun_commands.proofs.Endings.{ends}
 use Rattle.cbsrun_commands.proofs.load_steps.simulate_lines_within.Goals as goal
 

@@ -1,4 +1,4 @@
-use Rattle.cbsrun_commands.specs.Pictured.{load_drawing}
+use Rattle.cbsrun_commands.specs.Outputs.{load_drawing}
 use Rattle.cbsrun_commands.proofs.Endings.{ends}
 use Rattle.cbsrun_commands.proofs.pictures.draw_load_within.Goals as goal
 

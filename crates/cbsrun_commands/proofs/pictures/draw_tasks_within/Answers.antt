@@ -1,4 +1,4 @@
-use Rattle.cbsrun_commands.specs.Pictured.{task_drawing}
+use Rattle.cbsrun_commands.specs.Outputs.{task_drawing}
 use Rattle.cbsrun_commands.proofs.Endings.{ends}
 use Rattle.cbsrun_commands.proofs.pictures.draw_tasks_within.Goals as goal
 

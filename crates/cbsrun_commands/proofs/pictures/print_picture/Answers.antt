@@ -1,6 +1,6 @@
 use Rattle.std.proofs.Common.{◌∙◌, List, ℕ, subst, sym}
 use Rattle.cbsrun_lines.proofs.Writers.{untouched}
-use Rattle.cbsrun_commands.specs.Pictured.{IsDrawn}
+use Rattle.cbsrun_commands.specs.Outputs.{IsDrawn}
 use Rattle.cbsrun_commands.proofs.Endings.{prints_as}
 use Rattle.std.proofs.lemmas.Result.{err_from_is_err_and}
 use Rattle.cbsrun_commands.proofs.pictures.print_picture.Goals as goal

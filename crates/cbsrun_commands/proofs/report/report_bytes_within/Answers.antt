@@ -1,4 +1,4 @@
-use Rattle.cbsrun_commands.specs.Reported.{task_report}
+use Rattle.cbsrun_commands.specs.Outputs.{task_report}
 use Rattle.cbsrun_commands.proofs.Endings.{ends}
 use Rattle.cbsrun_commands.proofs.report.report_bytes_within.Goals as goal
 

@@ -1,4 +1,4 @@
-use Rattle.cbsrun_commands.specs.Reported.{load_report}
+use Rattle.cbsrun_commands.specs.Outputs.{load_report}
 use Rattle.cbsrun_commands.proofs.Endings.{ends}
 use Rattle.cbsrun_commands.proofs.report.simulate_bytes_within.Goals as goal
 

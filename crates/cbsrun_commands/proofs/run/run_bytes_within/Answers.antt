@@ -1,4 +1,4 @@
-use Rattle.cbsrun_commands.specs.Statuses.{done, refused, stopped}
+use Rattle.cbsrun_commands.specs.Verbs.{done, refused, stopped}
 use Rattle.cbsrun_lines.proofs.Writers.{tries, untouched}
 use Rattle.cbsrun_commands.proofs.run.run_bytes_within.Goals as goal
 

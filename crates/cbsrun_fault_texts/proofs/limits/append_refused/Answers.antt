@@ -1,7 +1,7 @@
 use Rattle.std.proofs.Common.{map}
 use Rattle.toml.specs.View.{view}
 use Rattle.cbs_rate.specs.declared.error.AdmitError.TheVariants.{TooManyServers, PeriodsTooFine, OverBound}
-use Rattle.cbsrun_fault_texts.specs.Spots.{IsSpotLine}
+use Rattle.cbsrun_fault_texts.specs.Refusals.{IsSpotLine}
 use Rattle.cbsrun_fault_texts.proofs.Documents.{told_as}
 use Rattle.cbsrun_fault_texts.proofs.limits.append_refused.Goals as goal
 

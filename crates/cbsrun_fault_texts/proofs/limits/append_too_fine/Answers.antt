@@ -3,8 +3,7 @@ use Rattle.std.specs.Prelude.{codes, decimal}
 use Rattle.std.proofs.lemmas.List.{append_assoc}
 use Rattle.cbs_rate.specs.Limits.{greatest_common_multiple}
 use Rattle.cbs_rate.specs.Plan.{common_multiple}
-use Rattle.cbsrun_fault_texts.specs.Refusals.{too_fine_line, IsTooFineText, IsPeriodText}
-use Rattle.cbsrun_fault_texts.specs.Spots.{IsSpotLine}
+use Rattle.cbsrun_fault_texts.specs.Refusals.{too_fine_line, IsTooFineText, IsPeriodText, IsSpotLine}
 use Rattle.cbsrun_fault_texts.proofs.Pages.{as_text, after, both}
 use Rattle.cbsrun_fault_texts.proofs.limits.append_too_fine.Goals as goal
 

@@ -2,8 +2,7 @@ use Rattle.std.proofs.Common.{◌≡◌, ℕ, List, ◌++◌, map, length, refl}
 use Rattle.std.specs.Prelude.{codes, decimal}
 use Rattle.std.proofs.lemmas.List.{append_assoc, length-map}
 use Rattle.toml.specs.View.{view}
-use Rattle.cbsrun_fault_texts.specs.Refusals.{too_many_line, IsTooManyText}
-use Rattle.cbsrun_fault_texts.specs.Spots.{IsSpotLine}
+use Rattle.cbsrun_fault_texts.specs.Refusals.{too_many_line, IsTooManyText, IsSpotLine}
 use Rattle.cbsrun_fault_texts.proofs.Pages.{then, as_text, after}
 use Rattle.cbsrun_fault_texts.proofs.limits.append_too_many.Goals as goal
 

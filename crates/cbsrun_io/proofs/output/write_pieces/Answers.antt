@@ -2,7 +2,7 @@ use Rattle.std.proofs.Common.{◌≡◌, ◌<◌, List, Bor, ℕ, length, ◌++�
 use Rattle.std.proofs.lemmas.Result.{err_from_is_err_and}
 use Rattle.std.proofs.lemmas.List.{drop_more}
 use Rattle.std.proofs.Math.ListN.{drop_of_length-le}
-use Rattle.cbsrun_io.specs.Writes.{joined}
+use Rattle.cbsrun_io.specs.Writers.{joined}
 use Rattle.cbsrun_io.proofs.WrittenText.{part_goes_on, part_ends, part_done}
 use Rattle.cbsrun_io.proofs.output.write_pieces.Goals as goal
 

@@ -1,5 +1,5 @@
 use Rattle.std.proofs.Common.{◌≡◌, drop}
-use Rattle.cbsrun_io.specs.Writes.{joined, AppendsAllBut}
+use Rattle.cbsrun_io.specs.Writers.{joined, AppendsAllBut}
 use Rattle.cbsrun_io.proofs.output.write_pieces.Given as goal
 
 abbrev pub invariant-loop-piece : goal.invariant-loop-piece

@@ -1,5 +1,5 @@
 use Rattle.cbsrun_perfetto.specs.Events.{budget_args, budget_data, on_thread}
-use Rattle.cbsrun_perfetto.specs.Servers.{budget_line}
+use Rattle.cbsrun_perfetto.specs.Traces.{budget_line}
 use Rattle.cbsrun_perfetto.proofs.Floats.{line_is, budget_plain}
 use Rattle.cbsrun_perfetto.proofs.events.budget_line.Goals as goal
 

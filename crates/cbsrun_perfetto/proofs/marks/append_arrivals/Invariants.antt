@@ -1,6 +1,6 @@
 use Rattle.std.proofs.Common.{◌≡◌, ◌++◌, take}
 use Rattle.std.specs.Prelude.{flat_map}
-use Rattle.cbsrun_perfetto.specs.Servers.{arrival_in}
+use Rattle.cbsrun_perfetto.specs.Traces.{arrival_in}
 use Rattle.cbsrun_perfetto.proofs.marks.append_arrivals.Given as goal
 
 abbrev pub invariant-loop-job : goal.invariant-loop-job

@@ -1,4 +1,4 @@
-use Rattle.cbsrun_perfetto.specs.Servers.{change_at}
+use Rattle.cbsrun_perfetto.specs.Traces.{change_at}
 use Rattle.cbsrun_perfetto.proofs.Growing.{piece_more}
 use Rattle.cbsrun_perfetto.proofs.marks.append_changes.Goals as goal
 

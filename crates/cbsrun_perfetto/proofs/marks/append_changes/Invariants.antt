@@ -1,6 +1,6 @@
 use Rattle.std.proofs.Common.{◌≡◌, ◌++◌}
 use Rattle.std.specs.List.{flat_map, range_with_len}
-use Rattle.cbsrun_perfetto.specs.Servers.{change_at}
+use Rattle.cbsrun_perfetto.specs.Traces.{change_at}
 use Rattle.cbsrun_perfetto.proofs.marks.append_changes.Given as goal
 
 abbrev pub invariant-loop-place : goal.invariant-loop-place

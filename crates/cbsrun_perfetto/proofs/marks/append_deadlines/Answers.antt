@@ -1,6 +1,6 @@
 use Rattle.std.proofs.Common.{arith}
 use Rattle.std.proofs.lemmas.Grind.{common_steps}
-use Rattle.cbsrun_perfetto.specs.Servers.{deadlines_of}
+use Rattle.cbsrun_perfetto.specs.Traces.{deadlines_of}
 use Rattle.cbsrun_perfetto.proofs.marks.append_deadlines.Goals as goal
 
 pub returns : goal.returns

@@ -1,5 +1,5 @@
 use Rattle.std.proofs.Common.{◌≡◌, ◌++◌, map, take}
-use Rattle.cbsrun_perfetto.specs.Servers.{deadline_line}
+use Rattle.cbsrun_perfetto.specs.Traces.{deadline_line}
 use Rattle.cbsrun_perfetto.proofs.marks.append_deadlines.Given as goal
 
 abbrev pub invariant-loop-tick : goal.invariant-loop-tick

@@ -1,7 +1,7 @@
 use Rattle.std.proofs.Common.{arith}
 use Rattle.std.proofs.lemmas.Grind.{common_steps}
 use Rattle.cbsrun_chart.specs.declared.jobs.ChartJob.{ChartJob}
-use Rattle.cbsrun_perfetto.specs.Servers.{end_at, ends_of}
+use Rattle.cbsrun_perfetto.specs.Traces.{end_at, ends_of}
 use Rattle.cbsrun_perfetto.proofs.Growing.{piece_taken}
 use Rattle.cbsrun_perfetto.proofs.marks.append_ends.Goals as goal
 

@@ -1,6 +1,6 @@
 use Rattle.std.proofs.Common.{◌≡◌, ◌++◌, take}
 use Rattle.std.specs.Prelude.{flat_map}
-use Rattle.cbsrun_perfetto.specs.Servers.{end_at}
+use Rattle.cbsrun_perfetto.specs.Traces.{end_at}
 use Rattle.cbsrun_perfetto.proofs.marks.append_ends.Given as goal
 
 abbrev pub invariant-loop-job : goal.invariant-loop-job

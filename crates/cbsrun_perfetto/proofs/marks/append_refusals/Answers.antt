@@ -1,6 +1,6 @@
 use Rattle.std.proofs.Common.{arith}
 use Rattle.std.proofs.lemmas.Grind.{common_steps}
-use Rattle.cbsrun_perfetto.specs.Servers.{refusals_in, refusals_of}
+use Rattle.cbsrun_perfetto.specs.Traces.{refusals_in, refusals_of}
 use Rattle.cbsrun_perfetto.proofs.Growing.{piece_taken}
 use Rattle.cbsrun_perfetto.proofs.marks.append_refusals.Goals as goal
 

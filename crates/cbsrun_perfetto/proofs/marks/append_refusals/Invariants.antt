@@ -1,6 +1,6 @@
 use Rattle.std.proofs.Common.{◌≡◌, ◌++◌, take}
 use Rattle.std.specs.Prelude.{flat_map}
-use Rattle.cbsrun_perfetto.specs.Servers.{refusals_in}
+use Rattle.cbsrun_perfetto.specs.Traces.{refusals_in}
 use Rattle.cbsrun_perfetto.proofs.marks.append_refusals.Given as goal
 
 abbrev pub invariant-loop-stretch : goal.invariant-loop-stretch

@@ -1,5 +1,5 @@
 use Rattle.std.proofs.Common.{ℕ, ◌+◌}
-use Rattle.cbsrun_perfetto.specs.Servers.{refused_line}
+use Rattle.cbsrun_perfetto.specs.Traces.{refused_line}
 use Rattle.cbsrun_perfetto.proofs.Growing.{value_more}
 use Rattle.cbsrun_perfetto.proofs.marks.append_refusals_in.Goals as goal
 

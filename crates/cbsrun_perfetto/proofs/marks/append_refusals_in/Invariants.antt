@@ -1,6 +1,6 @@
 use Rattle.std.proofs.Common.{◌≡◌, ◌+◌, ◌++◌, map}
 use Rattle.std.specs.List.{range_with_len}
-use Rattle.cbsrun_perfetto.specs.Servers.{refused_line}
+use Rattle.cbsrun_perfetto.specs.Traces.{refused_line}
 use Rattle.cbsrun_perfetto.proofs.marks.append_refusals_in.Given as goal
 
 abbrev pub invariant-loop-place : goal.invariant-loop-place

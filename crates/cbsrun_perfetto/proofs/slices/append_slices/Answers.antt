@@ -1,7 +1,7 @@
 use Rattle.std.proofs.Common.{arith}
 use Rattle.std.proofs.lemmas.Grind.{common_steps}
 use Rattle.cbsrun_window.specs.declared.stretch.Stretch.{Stretch}
-use Rattle.cbsrun_perfetto.specs.Servers.{slice_of, slices_of}
+use Rattle.cbsrun_perfetto.specs.Traces.{slice_of, slices_of}
 use Rattle.cbsrun_perfetto.proofs.Growing.{piece_taken}
 use Rattle.cbsrun_perfetto.proofs.slices.append_slices.Goals as goal
 

@@ -1,6 +1,6 @@
 use Rattle.std.proofs.Common.{◌≡◌, ◌++◌, take}
 use Rattle.std.specs.Prelude.{flat_map}
-use Rattle.cbsrun_perfetto.specs.Servers.{slice_of}
+use Rattle.cbsrun_perfetto.specs.Traces.{slice_of}
 use Rattle.cbsrun_perfetto.proofs.slices.append_slices.Given as goal
 
 abbrev pub invariant-loop-span : goal.invariant-loop-span

@@ -1,6 +1,5 @@
 use Rattle.std.proofs.Common.{◌≡◌, ◌∙◌, ◌+◌, ◌++◌, ap, arith, take, sym}
-use Rattle.cbsrun_perfetto.specs.Servers.{events_of}
-use Rattle.cbsrun_perfetto.specs.Traces.{numbered}
+use Rattle.cbsrun_perfetto.specs.Traces.{events_of, numbered}
 use Rattle.cbsrun_perfetto.proofs.Numbering.{numbered_next}
 use Rattle.cbsrun_perfetto.proofs.trace.all_events.Goals as goal
 

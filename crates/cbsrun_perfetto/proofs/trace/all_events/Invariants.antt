@@ -1,6 +1,5 @@
 use Rattle.std.proofs.Common.{◌≡◌, take}
-use Rattle.cbsrun_perfetto.specs.Servers.{events_of}
-use Rattle.cbsrun_perfetto.specs.Traces.{numbered}
+use Rattle.cbsrun_perfetto.specs.Traces.{events_of, numbered}
 use Rattle.cbsrun_perfetto.proofs.trace.all_events.Given as goal
 
 abbrev pub invariant-loop-place : goal.invariant-loop-place

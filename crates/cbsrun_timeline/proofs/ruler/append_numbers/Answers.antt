@@ -1,7 +1,7 @@
 use Rattle.std.proofs.Common.{◌∙◌, ◌++◌, ap, string_bytes, sym}
 use Rattle.std.specs.List.{flat_map, range_with_len}
 use Rattle.cbsrun_text.proofs.Texts.{grown, numbered_more}
-use Rattle.cbsrun_timeline.specs.Lines.{number_text}
+use Rattle.cbsrun_timeline.specs.Timelines.{number_text}
 use Rattle.cbsrun_timeline.proofs.ruler.append_numbers.Goals as goal
 
 pub loop-place-preserved : goal.loop-place-preserved

@@ -1,4 +1,4 @@
-use Rattle.cbsrun_timeline.specs.Lines.{ruler_sign}
+use Rattle.cbsrun_timeline.specs.Timelines.{ruler_sign}
 use Rattle.cbsrun_timeline.proofs.Growing.{sign_more}
 use Rattle.cbsrun_timeline.proofs.ruler.append_ruler_marks.Goals as goal
 

@@ -1,6 +1,6 @@
 use Rattle.std.proofs.Common.{◌≡◌, ◌++◌, map, string_bytes}
 use Rattle.std.specs.List.{range_with_len}
-use Rattle.cbsrun_timeline.specs.Lines.{ruler_sign}
+use Rattle.cbsrun_timeline.specs.Timelines.{ruler_sign}
 use Rattle.cbsrun_timeline.proofs.ruler.append_ruler_marks.Given as goal
 
 abbrev pub invariant-loop-place : goal.invariant-loop-place

@@ -1,6 +1,6 @@
 use Rattle.std.proofs.Common.{◌≡◌, ◌++◌, take, string_bytes}
 use Rattle.std.specs.Prelude.{flat_map}
-use Rattle.cbsrun_timeline.specs.Lines.{server_text}
+use Rattle.cbsrun_timeline.specs.Timelines.{server_text}
 use Rattle.cbsrun_timeline.proofs.timeline.append_servers.Given as goal
 
 abbrev pub invariant-loop-server : goal.invariant-loop-server

@@ -1,7 +1,7 @@
 use Rattle.std.proofs.Common.{◌≡◌, take}
 use Rattle.cbsrun_report_text.specs.Reports.{sum_of}
 use Rattle.cbsrun_figures.specs.Figures.{told}
-use Rattle.cbsrun_report_json.specs.Sums.{figure_of}
+use Rattle.cbsrun_report_json.specs.Json.{figure_of}
 use Rattle.cbsrun_report_json.proofs.sums.Sum.of.Given as goal
 
 abbrev pub invariant-loop-server : goal.invariant-loop-server

@@ -1,16 +1,51 @@
--- The table of the sources, as cells.
-use Rattle.std.specs.Prelude.{ℕ, ◌*◌, Bool, eqb, ltb, if◌then◌else◌, List, [], ◌∷◌, ◌++◌, codes, decimal, get_or, map, Option, Some, None}
+-- The tables of servers and of sources.
+use Rattle.std.specs.Prelude.{ℕ, List, [], ◌∷◌, ◌++◌, codes, decimal, get_or, length, map, ◌*◌, Bool, eqb, ltb, if◌then◌else◌, Option, Some, None}
+use Rattle.std.specs.List.{range_with_len}
+use Rattle.cbs_rate.specs.Plan.{common_multiple}
 use Rattle.cbs_rate.specs.Rate.{Rate}
 use Rattle.cbs_guarantee.specs.Parts.{rate_at}
+use Rattle.cbs_rules.specs.declared.mode.Mode.{Mode}
+use Rattle.cbs_rules.specs.declared.mode.Mode.TheVariants.{Soft}
+use Rattle.cbsrun_sizing.specs.Budgets.{reserved, is_within}
+use Rattle.cbsrun_text.specs.Columns.{CellText, plain, columns_text, marked_if}
+use Rattle.cbsrun_text.specs.Numbers.{mode_word, number_text}
+use Rattle.cbsrun_check_text.specs.Cells.{fraction_text, percent_text}
 use Rattle.cbsrun_simulate.specs.Bounds.{Bounds}
 use Rattle.cbsrun_simulate.specs.declared.terms.SourceTerms.{SourceTerms}
 use Rattle.cbsrun_sizing.specs.ServerLoads.{no_load}
-use Rattle.cbsrun_sizing.specs.Shares.{is_within}
 use Rattle.cbsrun_sizing.specs.declared.server_load.ServerLoad.{ServerLoad}
-use Rattle.cbsrun_text.specs.Columns.{CellText, columns_text, plain, marked_if}
-use Rattle.cbsrun_text.specs.Numbers.{number_text}
-use Rattle.cbsrun_check_text.specs.Fractions.{fraction_text}
-use Rattle.cbsrun_check_text.specs.Servers.{name_at}
+
+-- the name and the mode of server s
+abbrev pub name_at : List (List ℕ) → ℕ → List ℕ
+name_at names s = get_or names s []
+
+abbrev pub mode_at : List Mode → ℕ → Mode
+mode_at modes s = get_or modes s Soft
+
+-- the row of a server: what it has, and the greatest budget that it could have
+abbrev pub server_row : List ℕ → Mode → Rate → ℕ → List CellText
+server_row name mode rate greatest =
+    plain name ∷ plain (mode_word mode) ∷ plain (decimal rate.budget) ∷ plain (decimal rate.period) ∷ plain (fraction_text rate.budget rate.period)
+    ∷ plain (percent_text rate.budget rate.period) ∷ plain (decimal greatest) ∷ []
+
+abbrev pub servers_heading : List CellText
+servers_heading =
+    plain (codes "SERVER") ∷ plain (codes "mode") ∷ plain (codes "budget") ∷ plain (codes "period") ∷ plain (codes "share") ∷ plain []
+    ∷ plain (codes "greatest budget") ∷ []
+
+abbrev pub total_row : List Rate → List CellText
+total_row rates =
+    plain (codes "all") ∷ plain [] ∷ plain [] ∷ plain [] ∷ plain (fraction_text (reserved rates) (common_multiple rates))
+    ∷ plain (percent_text (reserved rates) (common_multiple rates)) ∷ []
+
+-- the row of server s
+abbrev pub row_at : List (List ℕ) → List Mode → List Rate → List ℕ → ℕ → List CellText
+row_at names modes rates budgets s = server_row (name_at names s) (mode_at modes s) (rate_at rates s) (get_or budgets s 0)
+
+-- the table SERVER: a row for each server, and one for all servers together
+unfoldable pub servers_table : List (List ℕ) → List Mode → List Rate → List ℕ → List (List CellText)
+servers_table names modes rates budgets =
+    servers_heading ∷ map (row_at names modes rates budgets) (range_with_len 0 (length rates)) ++ total_row rates ∷ []
 
 -- a range of numbers; a range of one number is written as that number
 abbrev pub range_text : Bounds → List ℕ

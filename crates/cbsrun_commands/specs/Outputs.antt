@@ -1,0 +1,109 @@
+-- What each command reads, and what it prints.
+use Rattle.std.specs.Prelude.{ℕ, if◌then◌else◌, List, Result, ◌≡◌, Ok, Err}
+use Rattle.cbsrun_check_text.specs.Checks.{IsLoadText, IsPlanText}
+use Rattle.cbsrun_tasks.specs.Spelling.{file}
+use Rattle.cbsrun_loads.specs.Spelling.{is_load, load}
+use Rattle.cbsrun_commands.specs.declared.check.AnyFile.{AnyFile}
+use Rattle.cbsrun_commands.specs.declared.check.AnyFile.TheVariants.{Load, Tasks}
+use Rattle.cbsrun_tables.specs.Fields.{◌>>=◌, seen}
+use Rattle.cbsrun_tables.specs.declared.fault.FileFault.{FileFault}
+use Rattle.cbsrun_loads.specs.Loads.{LoadFile}
+use Rattle.cbsrun_lines.specs.Traces.{AreLoadLines, WritesSomeLines}
+use Rattle.cbsrun_runs.specs.Loads.{seen_in, run_of, IsKept}
+use Rattle.cbsrun_commands.specs.Commands.{Command, printing_command}
+use Rattle.cbsrun_tasks.specs.TaskFiles.{File}
+use Rattle.cbsrun_report_json.specs.Json.{report_json}
+use Rattle.cbsrun_runs.specs.Runs.{Shown, IsReportOf, IsPictureOf}
+use Rattle.cbsrun_runs.specs.Tasks.{run_of_tasks, clock_of_tasks}
+use Rattle.cbsrun_report_text.specs.Texts.{report_text}
+use Rattle.cbsrun_report_text.specs.declared.report.RunReport.{RunReport}
+use Rattle.cbsrun_command_line.specs.declared.actions.Form.{Form}
+use Rattle.cbsrun_command_line.specs.declared.actions.Form.TheVariants.{Report, Json}
+use Rattle.cbsrun_chart.specs.declared.picture.Picture.{Picture}
+use Rattle.cbsrun_window.specs.declared.window.Window.{Window}
+use Rattle.cbsrun_lines.specs.Writers.{IsUntouched}
+use Rattle.cbsrun_window.specs.Windows.{AnswersShown}
+use Rattle.cbsrun_svg.specs.Pictures.{svg_text}
+use Rattle.cbsrun_timeline.specs.Timelines.{timeline_text}
+use Rattle.cbsrun_perfetto.specs.Traces.{IsTrace}
+use Rattle.cbsrun_command_line.specs.declared.actions.Drawing.{Drawing}
+use Rattle.cbsrun_command_line.specs.declared.actions.Drawing.TheVariants.{Svg, Text, Trace}
+
+-- the file that the bytes spell: a load if the top table has the key `load`, else a task file
+unfoldable pub any_file : List ℕ → Result AnyFile FileFault
+any_file bytes = do
+  is ← is_load bytes
+  if is then seen Load (load bytes) else seen Tasks (file bytes)
+
+-- the text is what `check` prints about the file
+abbrev pub IsCheckText : AnyFile → List ℕ → Type 0
+IsCheckText (Load f) text = IsLoadText f text
+IsCheckText (Tasks f) text = IsPlanText f.plan f.modes text
+
+-- the command that writes the lines of a load while they are made
+abbrev pub lines_command : Command LoadFile
+lines_command = record { read = load; prints = AreLoadLines; short = λ f. WritesSomeLines (seen_in f); nothing = λ f e. ⊥ }
+
+-- a report in a form
+abbrev pub text_in : Form → RunReport → List ℕ
+text_in Report r = report_text r
+text_in Json r = report_json r
+
+-- the text is that of a report of the run in this form, and names the file so
+abbrev pub IsRunText : Form → List ℕ → Shown → List ℕ → Type 0
+IsRunText form name run text = (r : RunReport) × IsReportOf name run r × (text ≡ text_in form r)
+
+-- the text is that of a report of the load in this form, and names the file so. What is told of each load holds of this
+-- one
+abbrev pub IsReportText : Form → List ℕ → LoadFile → List ℕ → Type 0
+IsReportText form name f text = IsRunText form name (run_of f) text × IsKept f
+
+-- the text is that of a report of the task file in this form, and names the file so
+abbrev pub IsTaskReportText : Form → List ℕ → File → List ℕ → Type 0
+IsTaskReportText form name f text = IsRunText form name (run_of_tasks f) text
+
+-- the command that prints a report of a load, and the one that prints a report of a task file
+abbrev pub load_report : Form → List ℕ → Command LoadFile
+load_report form name = printing_command load (IsReportText form name)
+
+abbrev pub task_report : Form → List ℕ → Command File
+task_report form name = printing_command file (IsTaskReportText form name)
+
+-- the text is a picture in this drawing
+abbrev pub IsDrawn : Drawing → Picture → List ℕ → Type 0
+IsDrawn Svg p text = text ≡ svg_text p
+IsDrawn Text p text = text ≡ timeline_text p
+IsDrawn Trace p text = IsTrace p text
+
+-- the text is a drawing of some picture with this property
+abbrev pub IsDrawingOf : Drawing → (Picture → Type 0) → List ℕ → Type 0
+IsDrawingOf drawing is text = (p : Picture) × is p × IsDrawn drawing p text
+
+-- the text draws the ticks that are asked for, as far as a run that ends at this tick has them. The drawn picture is
+-- one of the window of those ticks
+abbrev pub DrawsShown : Drawing → (Window → Picture → Type 0) → Window → ℕ → List ℕ → Type 0
+DrawsShown drawing is asked end text = (w : Window) × AnswersShown asked end (Ok w) × IsDrawingOf drawing (is w) text
+
+-- the text draws the ticks of the load that are asked for, and names the file so
+abbrev pub IsLoadDrawing : Drawing → Window → List ℕ → LoadFile → List ℕ → Type 0
+IsLoadDrawing drawing asked name f text = DrawsShown drawing (IsPictureOf name (run_of f)) asked f.until text
+
+-- the same for a task file
+abbrev pub IsTaskDrawing : Drawing → Window → List ℕ → File → List ℕ → Type 0
+IsTaskDrawing drawing asked name f text = DrawsShown drawing (IsPictureOf name (run_of_tasks f)) asked (clock_of_tasks f) text
+
+-- the tick at which a load's run ends
+abbrev pub end_of : LoadFile → ℕ
+end_of f = f.until
+
+-- a command that draws the ticks of each file that are asked for, as far as the run of the file has them
+abbrev pub drawing_command : {F : Type 0} → (List ℕ → Result F FileFault) → (F → List ℕ → Type 0) → (F → ℕ) → Window → Command F
+drawing_command read is ends asked =
+    record { read = read; prints = is; short = λ f. IsUntouched; nothing = λ f e. AnswersShown asked (ends f) (Err e) }
+
+-- the command that draws a load, and the one that draws a task file
+abbrev pub load_drawing : Drawing → Window → List ℕ → Command LoadFile
+load_drawing drawing asked name = drawing_command load (IsLoadDrawing drawing asked name) end_of asked
+
+abbrev pub task_drawing : Drawing → Window → List ℕ → Command File
+task_drawing drawing asked name = drawing_command file (IsTaskDrawing drawing asked name) clock_of_tasks asked
