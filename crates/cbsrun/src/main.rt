@@ -15,8 +15,8 @@ use cbsrun_commands::{
     draw_tasks_within, memory_bound, read_words, report_bytes_within, run_bytes_within,
     simulate_bytes_within, simulate_lines_within, write_pieces, write_read_fault, write_run_fault,
 };
-use cbsrun_paint::Painted;
 use cbsrun_tasks::MEMORY;
+use cbsrun_terminal::Painted;
 use std::alloc::{AllocError, Global};
 use std::env;
 use std::env::VarError;

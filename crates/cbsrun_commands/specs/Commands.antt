@@ -1,8 +1,8 @@
 -- What a command on a file leaves on its writers, by its result and by its status.
 use Rattle.std.specs.Prelude.{◌≡◌, ◌⊎◌, ℕ, List, Result, Ok, Err}
 use Rattle.cbsrun_window.specs.declared.shown.NothingShown.{NothingShown}
-use Rattle.cbsrun_tables.specs.Documents.{no_memory}
-use Rattle.cbsrun_tables.specs.declared.fault.FileFault.{FileFault}
+use Rattle.cbsrun_toml_tables.specs.Documents.{no_memory}
+use Rattle.cbsrun_toml_tables.specs.declared.fault.FileFault.{FileFault}
 use Rattle.cbsrun_lines.specs.Writers.{Writer, IsUntouched, Writes, TriesToWrite}
 use Rattle.cbsrun_commands.specs.FaultLines.{run_line, nothing_shown_line, Explains, StopsPrinting}
 use Rattle.cbsrun_lines.specs.declared.run_error.RunError.{RunError}

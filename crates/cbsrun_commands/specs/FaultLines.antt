@@ -1,9 +1,9 @@
 -- The lines of faults.
 use Rattle.std.specs.Prelude.{ℕ, List, ◌++◌, codes, decimal, ◌≡◌, [], ◌∷◌, Result, Ok, Err}
-use Rattle.cbsrun_tables.specs.Faults.{file_kind_number, file_kind_name, place_text}
+use Rattle.cbsrun_toml_tables.specs.Faults.{file_kind_number, file_kind_name, place_text}
 use Rattle.cbsrun_io.specs.Reads.{read_error_number, read_error_name}
 use Rattle.cbsrun_lines.specs.Writers.{run_error_number, run_error_name, Writer, IsUntouched, Writes, FailsToWrite, TriesToWrite}
-use Rattle.cbsrun_tables.specs.declared.fault.FileFault.{FileFault}
+use Rattle.cbsrun_toml_tables.specs.declared.fault.FileFault.{FileFault}
 use Rattle.cbsrun_io.specs.declared.input.ReadError.{ReadError}
 use Rattle.cbsrun_lines.specs.declared.run_error.RunError.{RunError}
 use Rattle.cbsrun_fault_texts.specs.Refusals.{ExplainsRefusal}

@@ -5,8 +5,8 @@ use Rattle.cbsrun_tasks.specs.Spelling.{file}
 use Rattle.cbsrun_loads.specs.Spelling.{is_load, load}
 use Rattle.cbsrun_commands.specs.declared.check.AnyFile.{AnyFile}
 use Rattle.cbsrun_commands.specs.declared.check.AnyFile.TheVariants.{Load, Tasks}
-use Rattle.cbsrun_tables.specs.Fields.{◌>>=◌, seen}
-use Rattle.cbsrun_tables.specs.declared.fault.FileFault.{FileFault}
+use Rattle.cbsrun_toml_tables.specs.Fields.{◌>>=◌, seen}
+use Rattle.cbsrun_toml_tables.specs.declared.fault.FileFault.{FileFault}
 use Rattle.cbsrun_loads.specs.Loads.{LoadFile}
 use Rattle.cbsrun_lines.specs.Traces.{AreLoadLines, WritesSomeLines}
 use Rattle.cbsrun_runs.specs.Loads.{seen_in, run_of, IsKept}

@@ -10,8 +10,8 @@ use Rattle.cbsrun_lines.specs.declared.run_error.RunError.{RunError}
 use Rattle.cbsrun_command_line.specs.declared.actions.Verb.{Verb}
 use Rattle.cbsrun_command_line.specs.declared.actions.Verb.TheVariants.{Replay, Serve}
 use Rattle.cbsrun_tasks.specs.Spelling.{file}
-use Rattle.cbsrun_tables.specs.Documents.{no_memory}
-use Rattle.cbsrun_tables.specs.declared.fault.FileFault.{FileFault}
+use Rattle.cbsrun_toml_tables.specs.Documents.{no_memory}
+use Rattle.cbsrun_toml_tables.specs.declared.fault.FileFault.{FileFault}
 use Rattle.cbsrun_commands.specs.FaultLines.{file_line, run_line}
 
 -- what a verb writes of a file

@@ -1,8 +1,8 @@
 //! The command `check`: from the bytes of a load or a task file to a status.
 
 ghost use Rattle.std.specs.Prelude.{◌≡◌, IfOk, string_bytes};
-ghost use Rattle.cbsrun_tables.specs.Documents.{no_memory};
-ghost use Rattle.cbsrun_tables.specs.Fields.{Gives};
+ghost use Rattle.cbsrun_toml_tables.specs.Documents.{no_memory};
+ghost use Rattle.cbsrun_toml_tables.specs.Fields.{Gives};
 ghost use Rattle.cbsrun_commands.specs.Outputs.{any_file, IsCheckText};
 ghost use Rattle.cbsrun_commands.specs.Commands.{Does, EndsAs, printing_command};
 ghost use Rattle.cbsrun_lines.specs.Writers.{MayWrite};

@@ -1,7 +1,7 @@
 //! How a command on a file ends: its status, and what is written to standard error.
 
 ghost use Rattle.std.specs.Prelude.{◌≡◌};
-ghost use Rattle.cbsrun_tables.specs.Documents.{no_memory};
+ghost use Rattle.cbsrun_toml_tables.specs.Documents.{no_memory};
 ghost use Rattle.cbsrun_commands.specs.Commands.{Tells};
 ghost use Rattle.cbsrun_commands.specs.FaultLines.{file_line, Explains, Prints};
 ghost use Rattle.cbsrun_commands.specs.declared.ending.Stopped.TheVariants.{Ended, Run, Unread};

@@ -2,8 +2,8 @@
 
 ghost use Rattle.cbsrun_tasks.specs.Spelling.{file};
 ghost use Rattle.cbsrun_loads.specs.Spelling.{load};
-ghost use Rattle.cbsrun_tables.specs.Documents.{no_memory};
-ghost use Rattle.cbsrun_tables.specs.Fields.{Gives};
+ghost use Rattle.cbsrun_toml_tables.specs.Documents.{no_memory};
+ghost use Rattle.cbsrun_toml_tables.specs.Fields.{Gives};
 
 use cbsrun_loads::{Load, read_load_within};
 use cbsrun_tasks::{FileFault, TaskFile, read_file_within};

@@ -4,7 +4,7 @@ use Rattle.std.specs.Prelude.{string_bytes, IfOk, IsUtf8}
 use Rattle.std.specs.declared.alloc.AllocError.{AllocError}
 use Rattle.toml.specs.Data.{Members}
 use Rattle.toml.specs.Parse.{parse_document}
-use Rattle.cbsrun_tables.specs.declared.fault.FileFault.{FileFault}
+use Rattle.cbsrun_toml_tables.specs.declared.fault.FileFault.{FileFault}
 use Rattle.cbsrun_faults.specs.Documents.{servers_of}
 use Rattle.cbsrun_fault_texts.specs.Refusals.{AppendsRefusal, AppendsWhy, IsNotRefusedAt, IsServerLine, TellsRefusal, ExplainsRefusal}
 use Rattle.cbsrun_fault_texts.specs.declared.page.Page.{Page}

@@ -2,17 +2,17 @@
 use Rattle.std.specs.Prelude.{◌≡◌, List, ◌++◌, codes, Option, IfSome, ℕ, ◌⊎◌, decimal, length, Some, IsUtf8}
 use Rattle.cbsrun_faults.specs.Spots.{label_of, server_label}
 use Rattle.cbsrun_faults.specs.declared.spot.Spot.{Spot}
-use Rattle.cbsrun_tables.specs.Faults.{place_text}
-use Rattle.cbsrun_tables.specs.declared.fault.Place.{Place}
+use Rattle.cbsrun_toml_tables.specs.Faults.{place_text}
+use Rattle.cbsrun_toml_tables.specs.declared.fault.Place.{Place}
 use Rattle.toml.specs.Data.{Data, Members}
 use Rattle.toml.specs.Parse.{parse_document}
 use Rattle.cbs_rate.specs.Limits.{greatest_common_multiple, most_servers}
 use Rattle.cbs_rate.specs.Plan.{common_multiple, with_rate}
 use Rattle.cbs_rate.specs.declared.error.AdmitError.{AdmitError}
 use Rattle.cbs_rate.specs.declared.error.AdmitError.TheVariants.{TooManyServers, PeriodsTooFine, OverBound}
-use Rattle.cbsrun_tables.specs.declared.fault.FileFault.{FileFault}
-use Rattle.cbsrun_tables.specs.declared.fault.FileKind.TheVariants.{NotAdmitted}
-use Rattle.cbsrun_tables.specs.declared.fault.Place.TheVariants.{Server}
+use Rattle.cbsrun_toml_tables.specs.declared.fault.FileFault.{FileFault}
+use Rattle.cbsrun_toml_tables.specs.declared.fault.FileKind.TheVariants.{NotAdmitted}
+use Rattle.cbsrun_toml_tables.specs.declared.fault.Place.TheVariants.{Server}
 use Rattle.cbsrun_faults.specs.Documents.{servers_of}
 use Rattle.cbsrun_faults.specs.Refused.{IsRefusedAt}
 use Rattle.cbsrun_faults.specs.declared.refused.Refused.{Refused}

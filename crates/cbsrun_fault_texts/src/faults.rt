@@ -14,7 +14,7 @@ use crate::remarks::{Marked, append_key_line, append_outside_line, append_type_l
 use crate::shown::{append_shown, type_phrase};
 use crate::values::{append_outside, append_wrong_type};
 use cbsrun_faults::{Document, Finding, Key, Spot, Want, find, nearest_key, spot_at};
-use cbsrun_tables::{FileFault, FileKind, Place};
+use cbsrun_toml_tables::{FileFault, FileKind, Place};
 use std::alloc::{AllocError, Global};
 use toml::Value;
 

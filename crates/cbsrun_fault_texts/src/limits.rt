@@ -10,7 +10,7 @@ use crate::over::append_over;
 use crate::page::Page;
 use cbs_rate::{AdmitError, MAX_COMMON_MULTIPLE, MAX_SERVERS};
 use cbsrun_faults::{Refused, Spot, refused_at};
-use cbsrun_tables::FileKind;
+use cbsrun_toml_tables::FileKind;
 
 /// Appends that a plan takes no more servers.
 fn append_too_many(page: &mut Page, spot: &Spot<'_>)

@@ -9,8 +9,8 @@ ghost use Rattle.cbsrun_fault_texts.specs.Refusals.{IsSpotLine};
 use cbs_rate::Ratio;
 use cbsrun_check_text::append_fraction;
 use cbsrun_faults::Spot;
-use cbsrun_tables::FileKind;
 use cbsrun_text::append_pair;
+use cbsrun_toml_tables::FileKind;
 use std::alloc::{AllocError, Global};
 use std::fmt::Display;
 

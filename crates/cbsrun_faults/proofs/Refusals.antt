@@ -6,7 +6,7 @@ use Rattle.std.proofs.lemmas.List.{take-map}
 use Rattle.toml.specs.Data.{Data, Members}
 use Rattle.cbs_rate.specs.Bound.{Fraction}
 use Rattle.cbs_rate.specs.Rate.{Rate}
-use Rattle.cbsrun_tables.specs.declared.fault.FileKind.{FileKind}
+use Rattle.cbsrun_toml_tables.specs.declared.fault.FileKind.{FileKind}
 use Rattle.cbsrun_faults.specs.declared.refused.Refused.{Refused}
 use Rattle.cbsrun_faults.specs.Refused.{bound_at, reservation_of, AreReservations, IsRefused, IsNotRefused, IsRefusedAt}
 

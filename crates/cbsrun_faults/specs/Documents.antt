@@ -5,8 +5,8 @@ use Rattle.toml.specs.View.{view, table_view}
 use Rattle.cbsrun_faults.specs.declared.document.Document.{Document}
 use Rattle.cbsrun_faults.specs.declared.document.Kind.{Kind}
 use Rattle.cbsrun_faults.specs.declared.document.Kind.TheVariants.{FormatOne, FormatTwo, Load}
-use Rattle.cbsrun_tables.specs.declared.fault.FileKind.{FileKind}
-use Rattle.cbsrun_tables.specs.Fields.{◌>>=◌, members, text_at, items_at}
+use Rattle.cbsrun_toml_tables.specs.declared.fault.FileKind.{FileKind}
+use Rattle.cbsrun_toml_tables.specs.Fields.{◌>>=◌, members, text_at, items_at}
 
 -- it is the number 1
 abbrev pub is_one : Option Data → Bool

@@ -5,9 +5,9 @@ use Rattle.cbs_rate.specs.Bound.{Fraction}
 use Rattle.cbs_rate.specs.Rate.{Rate}
 use Rattle.cbs_rate.specs.Plan.{Planned, admit_refusal, with_rate}
 use Rattle.cbs_rate.specs.declared.error.AdmitError.{AdmitError}
-use Rattle.cbsrun_tables.specs.declared.fault.FileKind.{FileKind}
-use Rattle.cbsrun_tables.specs.Fields.{◌>>=◌, members, integer_at, pair_at}
-use Rattle.cbsrun_tables.specs.Plans.{bound_of, reservation}
+use Rattle.cbsrun_toml_tables.specs.declared.fault.FileKind.{FileKind}
+use Rattle.cbsrun_toml_tables.specs.Fields.{◌>>=◌, members, integer_at, pair_at}
+use Rattle.cbsrun_toml_tables.specs.Plans.{bound_of, reservation}
 use Rattle.cbsrun_faults.specs.declared.refused.Refused.{Refused}
 
 -- the bound that a top table spells, or the fault of its key

@@ -3,7 +3,7 @@ use Rattle.std.specs.Prelude.{◌≡◌, ℕ, codes, List, [], slice_get, MatchO
 use Rattle.std.specs.Fmt.{◌++?◌, debug_str}
 use Rattle.toml.specs.Data.{Members}
 use Rattle.toml.specs.View.{table_view}
-use Rattle.cbsrun_tables.specs.declared.fault.Place.TheVariants.{Server}
+use Rattle.cbsrun_toml_tables.specs.declared.fault.Place.TheVariants.{Server}
 use Rattle.cbsrun_faults.specs.Documents.{kind_of, servers_of, name_at}
 use Rattle.cbsrun_faults.specs.declared.document.Document.{Document}
 use Rattle.cbsrun_faults.specs.declared.document.Kind.{Kind}

@@ -4,7 +4,7 @@ ghost use Rattle.std.specs.Prelude.{◌≡◌, map, option_map};
 ghost use Rattle.toml.specs.View.{view, table_view};
 ghost use Rattle.cbsrun_faults.specs.Documents.{kind_of, IsDocument, entries_at, text_of, name_of, name_at};
 
-use cbsrun_tables::{items_at, members, optional};
+use cbsrun_toml_tables::{items_at, members, optional};
 use std::alloc::{AllocError, Global};
 use toml::{Table, Value};
 
@@ -91,7 +91,7 @@ pub(crate) fn value_at<'a>(entry: &'a Value, key: &str) -> Option<&'a Value> {
 pub(crate) fn text_at<'a>(entry: &'a Value, key: &str) -> Option<&'a str>
     ensures { option_map (λ text. text.now) result ≡ text_of key.now (view entry.now) }
 {
-    match cbsrun_tables::text_at(members(entry).ok()?, key) {
+    match cbsrun_toml_tables::text_at(members(entry).ok()?, key) {
         Ok(text) => Some(text),
         Err(_) => None,
     }

@@ -4,7 +4,7 @@ use crate::document::{name_of, server_named, value_at};
 use crate::keys::{Key, Subject};
 use crate::spot::Spot;
 use crate::wants::test;
-use cbsrun_tables::{FileKind, Place, optional};
+use cbsrun_toml_tables::{FileKind, Place, optional};
 use toml::{Table, Value};
 
 /// The subject of a fault.

@@ -1,7 +1,7 @@
 //! The word that a misspelt word may stand for.
 
 use crate::spot::Spot;
-use cbsrun_tables::optional;
+use cbsrun_toml_tables::optional;
 use std::alloc::{AllocError, Global};
 use strsim::levenshtein;
 use toml::Table;

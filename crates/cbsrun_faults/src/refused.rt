@@ -6,7 +6,7 @@ ghost use Rattle.cbsrun_faults.specs.Refused.{bound_at, reservation_of, plan_of,
 
 use crate::document::Document;
 use cbs_rate::{AdmitError, Bound, Plan, Reservation};
-use cbsrun_tables::{FileKind, bound_of, integer_at, members, pair_at, reservation};
+use cbsrun_toml_tables::{FileKind, bound_of, integer_at, members, pair_at, reservation};
 use std::alloc::{AllocError, Global};
 use toml::{Table, Value};
 

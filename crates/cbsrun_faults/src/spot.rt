@@ -2,13 +2,13 @@
 
 ghost use Rattle.std.specs.Prelude.{◌≡◌, ℕ, map, option_map, slice_get, IfOk, IfSome, string_bytes};
 ghost use Rattle.toml.specs.View.{view, table_view};
-ghost use Rattle.cbsrun_tables.specs.declared.fault.Place.TheVariants.{Server};
+ghost use Rattle.cbsrun_toml_tables.specs.declared.fault.Place.TheVariants.{Server};
 ghost use Rattle.cbsrun_faults.specs.Documents.{entries_at, name_of};
 ghost use Rattle.cbsrun_faults.specs.Spots.{label_text, label_of, named_label, FindsServer};
 
 use crate::document::{Document, Kind, entries, name_of, server_named, text_at};
 use crate::keys::Subject;
-use cbsrun_tables::Place;
+use cbsrun_toml_tables::Place;
 use std::alloc::{AllocError, Global};
 use std::fmt;
 use toml::{Table, Value};

@@ -5,7 +5,7 @@ use crate::keys::Want;
 use crate::spot::Spot;
 use cbs_job::MAX_UNITS;
 use cbs_rate::MAX_PERIOD;
-use cbsrun_tables::{
+use cbsrun_toml_tables::{
     FileKind, all_integers, below, bound_of, integer, items, number, optional, pair, sized, text,
     within,
 };

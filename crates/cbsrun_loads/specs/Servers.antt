@@ -5,10 +5,10 @@ use Rattle.std.specs.List.{list_all}
 use Rattle.toml.specs.Data.{Data}
 use Rattle.cbs_rate.specs.Rate.{Rate}
 use Rattle.cbs_rules.specs.declared.mode.Mode.{Mode}
-use Rattle.cbsrun_tables.specs.declared.fault.FileKind.{FileKind}
-use Rattle.cbsrun_tables.specs.declared.fault.FileKind.TheVariants.{OutOfRange}
-use Rattle.cbsrun_tables.specs.Fields.{◌>>=◌, table_with, integer_at, text_at}
-use Rattle.cbsrun_tables.specs.Plans.{reservation, mode_of}
+use Rattle.cbsrun_toml_tables.specs.declared.fault.FileKind.{FileKind}
+use Rattle.cbsrun_toml_tables.specs.declared.fault.FileKind.TheVariants.{OutOfRange}
+use Rattle.cbsrun_toml_tables.specs.Fields.{◌>>=◌, table_with, integer_at, text_at}
+use Rattle.cbsrun_toml_tables.specs.Plans.{reservation, mode_of}
 use Rattle.cbsrun_loads.specs.declared.server.ServerEntry.{ServerEntry}
 
 -- a letter, a digit, `-` or `_`

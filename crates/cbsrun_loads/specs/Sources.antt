@@ -8,9 +8,9 @@ use Rattle.cbs_rate.specs.Rate.{Rate}
 use Rattle.cbs_rules.specs.Rules.{clock_end}
 use Rattle.cbsrun_simulate.specs.Bounds.{Bounds}
 use Rattle.cbsrun_simulate.specs.declared.terms.SourceTerms.{SourceTerms}
-use Rattle.cbsrun_tables.specs.declared.fault.FileKind.{FileKind}
-use Rattle.cbsrun_tables.specs.declared.fault.FileKind.TheVariants.{OutOfRange}
-use Rattle.cbsrun_tables.specs.Fields.{◌>>=◌, table_with, present, text_at, optional_integer_at, items, pair, within, of_some}
+use Rattle.cbsrun_toml_tables.specs.declared.fault.FileKind.{FileKind}
+use Rattle.cbsrun_toml_tables.specs.declared.fault.FileKind.TheVariants.{OutOfRange}
+use Rattle.cbsrun_toml_tables.specs.Fields.{◌>>=◌, table_with, present, text_at, optional_integer_at, items, pair, within, of_some}
 use Rattle.cbsrun_loads.specs.declared.source.SourceFields.{SourceFields}
 
 -- the least and the greatest number of a range. One number stands for both. There are none if an array has fewer or

@@ -6,12 +6,12 @@ use Rattle.toml.specs.Data.{Data, Members}
 use Rattle.cbs_rate.specs.Plan.{admit_refusal}
 use Rattle.cbs_rate.specs.declared.error.AdmitError.{AdmitError}
 use Rattle.cbs_rules.specs.Setups.{ModedPlan, no_servers, with_server}
-use Rattle.cbsrun_tables.specs.declared.fault.FileKind.{FileKind}
-use Rattle.cbsrun_tables.specs.declared.fault.FileKind.TheVariants.{OutOfRange, NotAdmitted}
-use Rattle.cbsrun_tables.specs.declared.fault.FileFault.{FileFault}
-use Rattle.cbsrun_tables.specs.declared.fault.Place.TheVariants.{Top, Source}
-use Rattle.cbsrun_tables.specs.Documents.{at, document, has_key, taken_in}
-use Rattle.cbsrun_tables.specs.Fields.{◌>>=◌, each_from}
+use Rattle.cbsrun_toml_tables.specs.declared.fault.FileKind.{FileKind}
+use Rattle.cbsrun_toml_tables.specs.declared.fault.FileKind.TheVariants.{OutOfRange, NotAdmitted}
+use Rattle.cbsrun_toml_tables.specs.declared.fault.FileFault.{FileFault}
+use Rattle.cbsrun_toml_tables.specs.declared.fault.Place.TheVariants.{Top, Source}
+use Rattle.cbsrun_toml_tables.specs.Documents.{at, document, has_key, taken_in}
+use Rattle.cbsrun_toml_tables.specs.Fields.{◌>>=◌, each_from}
 use Rattle.cbsrun_loads.specs.Loads.{LoadFile}
 use Rattle.cbsrun_loads.specs.Servers.{server_entry}
 use Rattle.cbsrun_loads.specs.Sources.{source_entry}

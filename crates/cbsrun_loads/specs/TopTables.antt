@@ -5,9 +5,9 @@ use Rattle.toml.specs.Data.{Data, Members}
 use Rattle.toml.specs.View.{view}
 use Rattle.cbs_rate.specs.Bound.{Fraction}
 use Rattle.cbs_rules.specs.Rules.{clock_end}
-use Rattle.cbsrun_tables.specs.declared.fault.FileKind.{FileKind}
-use Rattle.cbsrun_tables.specs.Fields.{◌>>=◌, with_keys, integer_at, items_at, pair_at, optional_integer_at, within, of_some, sized}
-use Rattle.cbsrun_tables.specs.Plans.{bound_of}
+use Rattle.cbsrun_toml_tables.specs.declared.fault.FileKind.{FileKind}
+use Rattle.cbsrun_toml_tables.specs.Fields.{◌>>=◌, with_keys, integer_at, items_at, pair_at, optional_integer_at, within, of_some, sized}
+use Rattle.cbsrun_toml_tables.specs.Plans.{bound_of}
 use Rattle.cbsrun_loads.specs.Loads.{most_sources}
 use Rattle.cbsrun_loads.specs.declared.top.TypedValues.{TypedValues}
 use Rattle.cbsrun_loads.specs.declared.top.TopTable.{TopTable}

@@ -4,11 +4,11 @@ ghost use Rattle.std.specs.Prelude.{◌≡◌, ◌≤◌, ℕ, List, [], length,
 ghost use Rattle.toml.specs.View.{view, table_view};
 ghost use Rattle.cbs_rate.specs.Limits.{most_servers};
 ghost use Rattle.cbs_rules.specs.Setups.{no_servers};
-ghost use Rattle.cbsrun_tables.specs.declared.fault.FileKind.TheVariants.{OutOfMemory};
-ghost use Rattle.cbsrun_tables.specs.declared.fault.Place.TheVariants.{Top, Source as AtSource};
-ghost use Rattle.cbsrun_tables.specs.Documents.{at, document, no_memory, taken_in};
-ghost use Rattle.cbsrun_tables.specs.Fields.{Gives, each_from};
-ghost use Rattle.cbsrun_tables.specs.Memory.{IsBounded, result_of};
+ghost use Rattle.cbsrun_toml_tables.specs.declared.fault.FileKind.TheVariants.{OutOfMemory};
+ghost use Rattle.cbsrun_toml_tables.specs.declared.fault.Place.TheVariants.{Top, Source as AtSource};
+ghost use Rattle.cbsrun_toml_tables.specs.Documents.{at, document, no_memory, taken_in};
+ghost use Rattle.cbsrun_toml_tables.specs.Fields.{Gives, each_from};
+ghost use Rattle.cbsrun_toml_tables.specs.Memory.{IsBounded, result_of};
 ghost use Rattle.cbsrun_loads.specs.Loads.{IsSource};
 ghost use Rattle.cbsrun_loads.specs.Sources.{source_entry};
 ghost use Rattle.cbsrun_loads.specs.Spelling.{admitted_entry, load, load_in, named_view};
@@ -20,7 +20,9 @@ use crate::top::top_table;
 use cbs_rate::{Bound, Plan};
 use cbs_rules::Setup;
 use cbsrun_simulate::SourceTerms;
-use cbsrun_tables::{Bounded, FileFault, FileKind, MEMORY, Place, at, document_within, faulty};
+use cbsrun_toml_tables::{
+    Bounded, FileFault, FileKind, MEMORY, Place, at, document_within, faulty,
+};
 use std::alloc::Global;
 use toml::{Table, Value};
 

@@ -3,12 +3,12 @@
 ghost use Rattle.std.specs.Prelude.{◌≡◌, bytes_eq, string_bytes};
 ghost use Rattle.std.specs.List.{list_any, list_all};
 ghost use Rattle.toml.specs.View.{view};
-ghost use Rattle.cbsrun_tables.specs.Fields.{seen};
+ghost use Rattle.cbsrun_toml_tables.specs.Fields.{seen};
 ghost use Rattle.cbsrun_loads.specs.Servers.{is_name_byte, name_of, server_entry, server_view};
 
 use cbs_rate::Reservation;
 use cbs_rules::Mode;
-use cbsrun_tables::{FileKind, integer_at, mode_of, reservation, table_with, text_at};
+use cbsrun_toml_tables::{FileKind, integer_at, mode_of, reservation, table_with, text_at};
 use toml::Value;
 
 /// The longest name of a server, in bytes.

@@ -4,7 +4,7 @@ ghost use Rattle.std.specs.Prelude.{◌≡◌, ◌≤◌, ◌<◌, length, map, 
 ghost use Rattle.std.specs.List.{position};
 ghost use Rattle.toml.specs.View.{view, table_view};
 ghost use Rattle.cbs_rate.specs.Limits.{most_servers};
-ghost use Rattle.cbsrun_tables.specs.Fields.{seen, of_some};
+ghost use Rattle.cbsrun_toml_tables.specs.Fields.{seen, of_some};
 ghost use Rattle.cbsrun_loads.specs.Loads.{IsSource};
 ghost use Rattle.cbsrun_loads.specs.Sources.{two_numbers, numbers_at, optional_numbers_at, range_within, server_named, period_at, source_fields, spelled_by, source_entry, fields_view};
 
@@ -12,7 +12,7 @@ use cbs_job::MAX_UNITS;
 use cbs_rate::{MAX_PERIOD, Plan};
 use cbs_rules::LIMIT;
 use cbsrun_simulate::{Range, SourceTerms};
-use cbsrun_tables::{
+use cbsrun_toml_tables::{
     FileKind, items, optional, optional_integer_at, optional_within, pair, present, table_with,
     text_at, within,
 };

@@ -4,14 +4,14 @@ ghost use Rattle.std.specs.Prelude.{◌≡◌, ◌≤◌, length, IfOk};
 ghost use Rattle.toml.specs.View.{table_view};
 ghost use Rattle.cbs_rate.specs.Limits.{most_backlog};
 ghost use Rattle.cbs_rules.specs.Rules.{clock_end};
-ghost use Rattle.cbsrun_tables.specs.Fields.{seen};
+ghost use Rattle.cbsrun_toml_tables.specs.Fields.{seen};
 ghost use Rattle.cbsrun_loads.specs.Loads.{most_sources};
 ghost use Rattle.cbsrun_loads.specs.TopTables.{kind_at, typed_values, spelled_by, top_table, typed_view, top_view};
 
 use cbs_core::MAX_BACKLOG;
 use cbs_rate::Bound;
 use cbs_rules::LIMIT;
-use cbsrun_tables::{
+use cbsrun_toml_tables::{
     FileKind, bound_of, integer_at, items_at, optional_integer_at, optional_within, pair_at, sized,
     with_keys, within,
 };

@@ -27,7 +27,7 @@ use Rattle.cbsrun_toml.proofs.LineReads.{line_pair, pair_placed}
 use Rattle.cbs_steps.specs.declared.step.Step.TheVariants as step
 use Rattle.cbs_job.specs.declared.file.FileJob.{FileJob}
 use Rattle.cbs_rate.specs.Limits.{greatest_number, most_units}
-use Rattle.cbsrun_tables.specs.Fields.{list_of, number, each, each_from, with_keys, integer_at, text_at, items_at}
+use Rattle.cbsrun_toml_tables.specs.Fields.{list_of, number, each, each_from, with_keys, integer_at, text_at, items_at}
 use Rattle.cbsrun_tasks.specs.declared.terms.Terms.{Terms}
 use Rattle.cbsrun_tasks.specs.declared.plain.Layout.{Layout}
 use Rattle.cbsrun_tasks.specs.declared.plain.Layout.TheVariants.{Inline, Lines}

@@ -5,14 +5,14 @@ use Rattle.toml.specs.Data.{array, Items, no_items, Members, get_member}
 use Rattle.toml.specs.Parse.{parse_document}
 use Rattle.cbs_steps.specs.declared.step.Step.{Step}
 use Rattle.cbs_job.specs.declared.file.FileJob.{FileJob}
-use Rattle.cbsrun_tables.specs.declared.fault.FileKind.{FileKind}
-use Rattle.cbsrun_tables.specs.declared.fault.FileKind.TheVariants.{NotToml}
-use Rattle.cbsrun_tables.specs.declared.fault.FileFault.{FileFault}
-use Rattle.cbsrun_tables.specs.declared.fault.Place.TheVariants.{Top, Step as AtStep}
+use Rattle.cbsrun_toml_tables.specs.declared.fault.FileKind.{FileKind}
+use Rattle.cbsrun_toml_tables.specs.declared.fault.FileKind.TheVariants.{NotToml}
+use Rattle.cbsrun_toml_tables.specs.declared.fault.FileFault.{FileFault}
+use Rattle.cbsrun_toml_tables.specs.declared.fault.Place.TheVariants.{Top, Step as AtStep}
 use Rattle.cbsrun_tasks.specs.Entries.{step_entry}
-use Rattle.cbsrun_tables.specs.Fields.{each_from, list_of}
+use Rattle.cbsrun_toml_tables.specs.Fields.{each_from, list_of}
 use Rattle.cbs_rules.specs.Setups.{ModedPlan, no_servers}
-use Rattle.cbsrun_tables.specs.Documents.{at, document, faulty, has_key, taken_in}
+use Rattle.cbsrun_toml_tables.specs.Documents.{at, document, faulty, has_key, taken_in}
 use Rattle.cbsrun_tasks.specs.Spelling.{admitted_entry, file, file_in}
 use Rattle.cbsrun_tasks.specs.TopTables.{TopData, top_table}
 use Rattle.cbsrun_toml.specs.Reading.{insert_member}

@@ -5,12 +5,12 @@ use Rattle.std.proofs.lemmas.Bool.{true≢false, false≢true}
 use Rattle.toml.specs.Data.{Data, Items, no_items, item, push_item}
 use Rattle.cbs_steps.specs.declared.step.Step.{Step}
 use Rattle.cbs_job.specs.declared.file.FileJob.{FileJob}
-use Rattle.cbsrun_tables.specs.declared.fault.FileKind.{FileKind}
-use Rattle.cbsrun_tables.specs.declared.fault.FileFault.{FileFault}
-use Rattle.cbsrun_tables.specs.declared.fault.Place.TheVariants.{Step as AtStep}
+use Rattle.cbsrun_toml_tables.specs.declared.fault.FileKind.{FileKind}
+use Rattle.cbsrun_toml_tables.specs.declared.fault.FileFault.{FileFault}
+use Rattle.cbsrun_toml_tables.specs.declared.fault.Place.TheVariants.{Step as AtStep}
 use Rattle.cbsrun_tasks.specs.Entries.{step_entry}
-use Rattle.cbsrun_tables.specs.Fields.{◌>>=◌, each_from, list_of}
-use Rattle.cbsrun_tables.specs.Documents.{at}
+use Rattle.cbsrun_toml_tables.specs.Fields.{◌>>=◌, each_from, list_of}
+use Rattle.cbsrun_toml_tables.specs.Documents.{at}
 use Rattle.std.specs.Borrow.{Bor}
 use Rattle.std.specs.Result.{IsErrAnd}
 use Rattle.toml_parser.specs.Lexical.{Read}

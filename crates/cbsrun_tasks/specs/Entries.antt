@@ -2,11 +2,11 @@
 -- missing keys, types of values, ranges of values. The `op` of a step is tested before these.
 use Rattle.std.specs.Prelude.{ℕ, ℤ, eqb, if◌then◌else◌, Result, Ok, codes, bytes_eq, map, List, [], ◌∷◌, Option, Some, None, Err}
 use Rattle.cbs_rules.specs.Rules.{clock_end}
-use Rattle.cbsrun_tables.specs.declared.fault.FileKind.{FileKind}
+use Rattle.cbsrun_toml_tables.specs.declared.fault.FileKind.{FileKind}
 use Rattle.cbsrun_tasks.specs.declared.format.Format.{Format}
 use Rattle.cbsrun_tasks.specs.declared.format.Format.TheVariants.{One, Two}
-use Rattle.cbsrun_tables.specs.Fields.{◌>>=◌, within, only_keys, with_keys, table_with, integer_at, text_at, items_at, all_integers, number, members, below}
-use Rattle.cbsrun_tables.specs.Fields.{sized, each}
+use Rattle.cbsrun_toml_tables.specs.Fields.{◌>>=◌, within, only_keys, with_keys, table_with, integer_at, text_at, items_at, all_integers, number, members, below}
+use Rattle.cbsrun_toml_tables.specs.Fields.{sized, each}
 use Rattle.cbs_rate.specs.Limits.{greatest_number, most_units}
 use Rattle.toml.specs.Data.{Data, Members}
 use Rattle.toml.specs.View.{view}
@@ -18,8 +18,8 @@ use Rattle.cbs_steps.specs.declared.step.Step.{Step}
 use Rattle.cbs_steps.specs.declared.step.Step.TheVariants as step
 use Rattle.cbsrun_tasks.specs.declared.entries.ServerEntry.{ServerEntry}
 use Rattle.cbsrun_tasks.specs.declared.entries.SubmitFields.{SubmitFields}
-use Rattle.cbsrun_tables.specs.declared.fault.FileKind.TheVariants.{OutOfRange}
-use Rattle.cbsrun_tables.specs.Plans.{reservation, mode_of}
+use Rattle.cbsrun_toml_tables.specs.declared.fault.FileKind.TheVariants.{OutOfRange}
+use Rattle.cbsrun_toml_tables.specs.Plans.{reservation, mode_of}
 
 -- the format of this number
 abbrev pub format_of : ℤ → Result Format FileKind

@@ -9,7 +9,7 @@ use Rattle.cbsrun_tasks.specs.declared.plain.Layout.TheVariants.{Inline, Lines}
 use Rattle.std.specs.Char.{is_ascii_digit}
 use Rattle.std.specs.List.{list_all}
 use Rattle.cbs_rate.specs.Limits.{greatest_number}
-use Rattle.cbsrun_tables.specs.Fields.{list_of}
+use Rattle.cbsrun_toml_tables.specs.Fields.{list_of}
 use Rattle.toml_parser.specs.Lexical.{Read, space, first, is_word, skip_ws, skip_blank, left_bracket, left_brace, right_brace}
 use Rattle.cbs_job.specs.declared.file.FileJob.{FileJob}
 use Rattle.cbs_steps.specs.declared.step.Step.{Step}

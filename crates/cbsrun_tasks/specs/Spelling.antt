@@ -5,13 +5,13 @@ use Rattle.cbs_rate.specs.Plan.{admit_refusal}
 use Rattle.cbs_rate.specs.declared.error.AdmitError.{AdmitError}
 use Rattle.cbs_rules.specs.declared.mode.Mode.{Mode}
 use Rattle.cbs_rules.specs.Setups.{ModedPlan, no_servers, with_server}
-use Rattle.cbsrun_tables.specs.declared.fault.FileKind.{FileKind}
-use Rattle.cbsrun_tables.specs.declared.fault.FileKind.TheVariants.{NotAdmitted}
-use Rattle.cbsrun_tables.specs.declared.fault.FileFault.{FileFault}
-use Rattle.cbsrun_tables.specs.declared.fault.Place.TheVariants.{Top, Step as AtStep}
-use Rattle.cbsrun_tables.specs.Documents.{at, document, taken_in, has_key, no_memory}
+use Rattle.cbsrun_toml_tables.specs.declared.fault.FileKind.{FileKind}
+use Rattle.cbsrun_toml_tables.specs.declared.fault.FileKind.TheVariants.{NotAdmitted}
+use Rattle.cbsrun_toml_tables.specs.declared.fault.FileFault.{FileFault}
+use Rattle.cbsrun_toml_tables.specs.declared.fault.Place.TheVariants.{Top, Step as AtStep}
+use Rattle.cbsrun_toml_tables.specs.Documents.{at, document, taken_in, has_key, no_memory}
 use Rattle.cbsrun_tasks.specs.Entries.{server_entry, step_entry}
-use Rattle.cbsrun_tables.specs.Fields.{◌>>=◌, each_from}
+use Rattle.cbsrun_toml_tables.specs.Fields.{◌>>=◌, each_from}
 use Rattle.cbsrun_tasks.specs.TaskFiles.{File}
 use Rattle.cbsrun_tasks.specs.TopTables.{top_table}
 use Rattle.toml.specs.View.{table_view}

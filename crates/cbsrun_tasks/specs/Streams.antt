@@ -11,11 +11,11 @@ use Rattle.cbs_steps.specs.declared.step.Step.{Step}
 use Rattle.cbsrun_toml.specs.Reading.{insert_member}
 use Rattle.cbsrun_toml_tokens.specs.declared.stop.Stop.{Stop}
 use Rattle.cbsrun_toml_tokens.specs.declared.stop.Stop.TheVariants.{NotToml}
-use Rattle.cbsrun_tables.specs.declared.fault.FileKind.{FileKind}
-use Rattle.cbsrun_tables.specs.declared.fault.FileFault.{FileFault}
-use Rattle.cbsrun_tables.specs.declared.fault.Place.TheVariants.{Step as AtStep}
-use Rattle.cbsrun_tables.specs.Documents.{at, faulty}
-use Rattle.cbsrun_tables.specs.Fields.{list_of, each_from}
+use Rattle.cbsrun_toml_tables.specs.declared.fault.FileKind.{FileKind}
+use Rattle.cbsrun_toml_tables.specs.declared.fault.FileFault.{FileFault}
+use Rattle.cbsrun_toml_tables.specs.declared.fault.Place.TheVariants.{Step as AtStep}
+use Rattle.cbsrun_toml_tables.specs.Documents.{at, faulty}
+use Rattle.cbsrun_toml_tables.specs.Fields.{list_of, each_from}
 use Rattle.cbsrun_tasks.specs.declared.stream.Document.{Document}
 use Rattle.cbsrun_tasks.specs.declared.steps.StepsRead.{StepsRead}
 use Rattle.cbsrun_tasks.specs.declared.terms.Terms.{Terms}

@@ -1,12 +1,12 @@
 //! The entries of a task file's arrays: each is one server or one step.
 
 ghost use Rattle.std.specs.Prelude.{◌≡◌, ℕ, ◌≤◌, length, IfOk, Err};
-ghost use Rattle.cbsrun_tables.specs.declared.fault.FileKind.TheVariants.{OutOfMemory};
+ghost use Rattle.cbsrun_toml_tables.specs.declared.fault.FileKind.TheVariants.{OutOfMemory};
 ghost use Rattle.toml.specs.View.{view, table_view};
-ghost use Rattle.cbsrun_tables.specs.Fields.{Gives, seen};
+ghost use Rattle.cbsrun_toml_tables.specs.Fields.{Gives, seen};
 ghost use Rattle.cbsrun_tasks.specs.TaskFiles.{IsFileStep};
 ghost use Rattle.cbsrun_tasks.specs.Entries.{job_of, reserved_entry, moded_entry, server_entry, submit_fields, submit_view, submit_entry, run_entry, advance_entry, close_entry, step_entry};
-ghost use Rattle.cbsrun_tables.specs.Plans.{reservation};
+ghost use Rattle.cbsrun_toml_tables.specs.Plans.{reservation};
 ghost use Rattle.cbs_rate.specs.Limits.{most_servers, most_units};
 
 use crate::format::Format;
@@ -14,7 +14,7 @@ use cbs_core::Step;
 use cbs_job::{FileJob, MAX_UNITS, PeakJob, SumJob, Task};
 use cbs_rate::Reservation;
 use cbs_rules::Mode;
-use cbsrun_tables::{
+use cbsrun_toml_tables::{
     FileKind, all_integers, below, integer_at, items_at, members, mode_of, only_keys, reservation,
     sized, table_with, text_at, units, with_keys, within,
 };

@@ -4,15 +4,15 @@ ghost use Rattle.std.specs.Prelude.{◌≡◌, ◌<◌, ◌≤◌, ℕ, true, Li
 ghost use Rattle.std.specs.Str.{is_utf8};
 ghost use Rattle.toml.specs.Parse.{parse_document};
 ghost use Rattle.toml.specs.View.{view, table_view};
-ghost use Rattle.cbsrun_tables.specs.declared.fault.FileKind.TheVariants.{OutOfMemory};
-ghost use Rattle.cbsrun_tables.specs.declared.fault.Place.TheVariants.{Step as AtStep};
+ghost use Rattle.cbsrun_toml_tables.specs.declared.fault.FileKind.TheVariants.{OutOfMemory};
+ghost use Rattle.cbsrun_toml_tables.specs.declared.fault.Place.TheVariants.{Step as AtStep};
 ghost use Rattle.cbsrun_tasks.specs.Entries.{step_entry};
-ghost use Rattle.cbsrun_tables.specs.Fields.{Gives, seen, each_from};
-ghost use Rattle.cbsrun_tables.specs.Memory.{IsBounded, result_of};
+ghost use Rattle.cbsrun_toml_tables.specs.Fields.{Gives, seen, each_from};
+ghost use Rattle.cbsrun_toml_tables.specs.Memory.{IsBounded, result_of};
 ghost use Rattle.cbsrun_tasks.specs.Streams.{IsDocument};
 ghost use Rattle.cbsrun_tasks.specs.TaskFiles.{IsFileStep};
 ghost use Rattle.cbsrun_tasks.specs.Spelling.{file, file_in, admitted_entry};
-ghost use Rattle.cbsrun_tables.specs.Documents.{document, faulty, at, no_memory, taken_in};
+ghost use Rattle.cbsrun_toml_tables.specs.Documents.{document, faulty, at, no_memory, taken_in};
 ghost use Rattle.cbs_rate.specs.Limits.{most_servers};
 ghost use Rattle.cbs_rules.specs.Setups.{no_servers};
 
@@ -26,10 +26,10 @@ use cbs_core::Step;
 use cbs_job::FileJob;
 use cbs_rate::Bound;
 use cbs_rules::{Mode, Setup};
-use cbsrun_tables::{
+use cbsrun_toml::Stop;
+use cbsrun_toml_tables::{
     Bounded, FileFault, FileKind, MEMORY, Place, at, document, faulty, wants_within,
 };
-use cbsrun_toml::Stop;
 use std::alloc::Global;
 use toml::{Table, Value};
 

@@ -2,10 +2,10 @@
 
 ghost use Rattle.std.specs.Prelude.{◌≡◌, ◌≤◌};
 ghost use Rattle.cbsrun_tasks.specs.Entries.{format_of, longest_advance};
-ghost use Rattle.cbsrun_tables.specs.Plans.{mode_of};
+ghost use Rattle.cbsrun_toml_tables.specs.Plans.{mode_of};
 
 use cbs_rules::LIMIT;
-use cbsrun_tables::{FileKind, within};
+use cbsrun_toml_tables::{FileKind, within};
 
 /// The format of a task file.
 #[derive(Clone, Copy)]

@@ -1,16 +1,16 @@
 //! Files of either kind: a load has the key `load` in its top table, and a task file has not.
 
 ghost use Rattle.std.specs.Prelude.{◌≡◌, List, ℕ, IfSome, codes, false, Ok};
-ghost use Rattle.cbsrun_tables.specs.Memory.{IsBounded, result_of};
-ghost use Rattle.cbsrun_tables.specs.Documents.{has_key, no_memory};
-ghost use Rattle.cbsrun_tables.specs.Fields.{Gives};
+ghost use Rattle.cbsrun_toml_tables.specs.Memory.{IsBounded, result_of};
+ghost use Rattle.cbsrun_toml_tables.specs.Documents.{has_key, no_memory};
+ghost use Rattle.cbsrun_toml_tables.specs.Fields.{Gives};
 ghost use Rattle.cbsrun_tasks.specs.Spelling.{Finds, file};
 
 use crate::file::{finish, tasks_in};
 use crate::stream::{Document, read_document};
 use crate::task_file::TaskFile;
-use cbsrun_tables::{Bounded, FileFault, FileKind, Place, at, document, faulty, wants_within};
 use cbsrun_toml::Stop;
+use cbsrun_toml_tables::{Bounded, FileFault, FileKind, Place, at, document, faulty, wants_within};
 use std::alloc::Global;
 use toml::Table;
 

@@ -13,7 +13,7 @@ mod task_file;
 mod terms;
 mod top;
 
-pub use cbsrun_tables::{Bounded, FileFault, FileKind, MEMORY, Place, wants_within};
+pub use cbsrun_toml_tables::{Bounded, FileFault, FileKind, MEMORY, Place, wants_within};
 pub use file::{read_file, read_file_within};
 pub use kinds::{Found, find_within};
 pub use task_file::{Parts, TaskFile};

@@ -1,5 +1,5 @@
 use Rattle.std.proofs.Common.{◌≡◌, ℕ, inl, sym, ◌∙◌}
-use Rattle.cbsrun_tables.specs.declared.fault.Place.TheVariants.{Server}
+use Rattle.cbsrun_toml_tables.specs.declared.fault.Place.TheVariants.{Server}
 use Rattle.cbsrun_fault_texts.proofs.Documents.{refusal_of, none_refused}
 use Rattle.cbsrun_fault_texts.proofs.faults.append_fault.Goals as goal
 

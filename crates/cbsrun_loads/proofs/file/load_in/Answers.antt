@@ -2,9 +2,9 @@ use Rattle.std.proofs.Common.{◌≡◌, [], Ok, map, string_bytes, sym, refl, a
 use Rattle.std.proofs.lemmas.Grind.{common_steps}
 use Rattle.toml.specs.View.{view, table_view}
 use Rattle.cbs_rules.specs.Setups.{no_servers}
-use Rattle.cbsrun_tables.specs.declared.fault.Place.TheVariants.{Source as AtSource}
-use Rattle.cbsrun_tables.specs.Documents.{at, taken_in}
-use Rattle.cbsrun_tables.specs.Fields.{each_from}
+use Rattle.cbsrun_toml_tables.specs.declared.fault.Place.TheVariants.{Source as AtSource}
+use Rattle.cbsrun_toml_tables.specs.Documents.{at, taken_in}
+use Rattle.cbsrun_toml_tables.specs.Fields.{each_from}
 use Rattle.cbsrun_loads.specs.Sources.{source_entry}
 use Rattle.cbsrun_loads.specs.Spelling.{Named, load_in, admitted_entry}
 use Rattle.cbsrun_loads.specs.TopTables.{top_table, top_view}

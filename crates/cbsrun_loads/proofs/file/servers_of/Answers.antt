@@ -1,10 +1,10 @@
 use Rattle.std.proofs.Common.{inl, inr, map, string_bytes, sym, ◌∙◌}
 use Rattle.std.proofs.lemmas.Result.{err_from_is_err_and}
 use Rattle.toml.specs.View.{view}
-use Rattle.cbsrun_tables.specs.declared.fault.Place.TheVariants.{Server}
-use Rattle.cbsrun_tables.specs.Documents.{at, no_memory}
-use Rattle.cbsrun_tables.proofs.Places.{Gives-at, gives_ok, gives_err, at_ok}
-use Rattle.cbsrun_tables.proofs.TakenIn.{taken_on, taken_ends, taken_done}
+use Rattle.cbsrun_toml_tables.specs.declared.fault.Place.TheVariants.{Server}
+use Rattle.cbsrun_toml_tables.specs.Documents.{at, no_memory}
+use Rattle.cbsrun_toml_tables.proofs.Places.{Gives-at, gives_ok, gives_err, at_ok}
+use Rattle.cbsrun_toml_tables.proofs.TakenIn.{taken_on, taken_ends, taken_done}
 use Rattle.cbsrun_loads.specs.Spelling.{Named, admitted_entry}
 use Rattle.cbsrun_loads.proofs.file.servers_of.Goals as goal
 

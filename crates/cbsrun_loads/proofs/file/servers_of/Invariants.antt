@@ -1,7 +1,7 @@
 use Rattle.std.proofs.Common.{◌≡◌, [], map, drop, length, string_bytes}
 use Rattle.toml.specs.View.{view}
 use Rattle.cbs_rules.specs.Setups.{no_servers}
-use Rattle.cbsrun_tables.specs.Documents.{taken_in}
+use Rattle.cbsrun_toml_tables.specs.Documents.{taken_in}
 use Rattle.cbsrun_loads.specs.Spelling.{admitted_entry}
 use Rattle.cbsrun_loads.proofs.file.servers_of.Given as goal
 

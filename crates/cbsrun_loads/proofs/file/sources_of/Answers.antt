@@ -3,10 +3,10 @@ use Rattle.std.proofs.lemmas.Result.{err_from_is_err_and}
 use Rattle.std.proofs.lemmas.List.Elements.{All-push}
 use Rattle.toml.specs.View.{view}
 use Rattle.toml.specs.declared.value.Value.{Value}
-use Rattle.cbsrun_tables.specs.declared.fault.Place.TheVariants.{Source as AtSource}
-use Rattle.cbsrun_tables.specs.Documents.{at}
-use Rattle.cbsrun_tables.proofs.Each.{goes_on, ends, is_done, each_from-map}
-use Rattle.cbsrun_tables.proofs.Places.{at_ok}
+use Rattle.cbsrun_toml_tables.specs.declared.fault.Place.TheVariants.{Source as AtSource}
+use Rattle.cbsrun_toml_tables.specs.Documents.{at}
+use Rattle.cbsrun_toml_tables.proofs.Each.{goes_on, ends, is_done, each_from-map}
+use Rattle.cbsrun_toml_tables.proofs.Places.{at_ok}
 use Rattle.cbsrun_loads.specs.Loads.{IsSource}
 use Rattle.cbsrun_loads.specs.Sources.{source_entry}
 use Rattle.cbsrun_loads.proofs.file.sources_of.Goals as goal

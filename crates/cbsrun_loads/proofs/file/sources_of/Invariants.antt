@@ -1,10 +1,10 @@
 use Rattle.std.proofs.Common.{◌≡◌, drop, length, map, string_bytes}
 use Rattle.std.specs.Prelude.{All}
 use Rattle.toml.specs.View.{view}
-use Rattle.cbsrun_tables.specs.declared.fault.Place.TheVariants.{Source as AtSource}
-use Rattle.cbsrun_tables.specs.Documents.{at}
-use Rattle.cbsrun_tables.specs.Fields.{each_from}
-use Rattle.cbsrun_tables.proofs.Each.{with_front}
+use Rattle.cbsrun_toml_tables.specs.declared.fault.Place.TheVariants.{Source as AtSource}
+use Rattle.cbsrun_toml_tables.specs.Documents.{at}
+use Rattle.cbsrun_toml_tables.specs.Fields.{each_from}
+use Rattle.cbsrun_toml_tables.proofs.Each.{with_front}
 use Rattle.cbsrun_loads.specs.Loads.{IsSource}
 use Rattle.cbsrun_loads.specs.Sources.{source_entry}
 use Rattle.cbsrun_loads.proofs.file.sources_of.Given as goal

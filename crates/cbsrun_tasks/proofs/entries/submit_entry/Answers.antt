@@ -5,8 +5,8 @@ use Rattle.std.specs.Prelude.{if◌then◌else◌}
 use Rattle.toml.specs.Data.{Data}
 use Rattle.toml.specs.View.{view}
 use Rattle.cbs_rate.specs.Limits.{most_units}
-use Rattle.cbsrun_tables.specs.declared.fault.FileKind.{FileKind}
-use Rattle.cbsrun_tables.specs.Fields.{sized}
+use Rattle.cbsrun_toml_tables.specs.declared.fault.FileKind.{FileKind}
+use Rattle.cbsrun_toml_tables.specs.Fields.{sized}
 use Rattle.cbsrun_tasks.specs.Entries.{submit_entry}
 use Rattle.cbsrun_tasks.proofs.entries.submit_entry.Goals as goal
 

@@ -4,7 +4,7 @@ use Rattle.toml.specs.View.{view, table_view, members_view}
 use Rattle.toml.specs.declared.value.Value.{Array}
 use Rattle.toml.proofs.Views.{view-Array}
 use Rattle.cbs_rules.specs.Setups.{no_servers}
-use Rattle.cbsrun_tables.specs.Documents.{taken_in}
+use Rattle.cbsrun_toml_tables.specs.Documents.{taken_in}
 use Rattle.cbsrun_tasks.specs.Spelling.{admitted_entry}
 use Rattle.cbsrun_tasks.specs.TopTables.{top_table, top_view}
 use Rattle.cbsrun_toml.specs.Reading.{insert_member}

@@ -1,9 +1,9 @@
 use Rattle.std.proofs.Common.{◌≡◌, Ok, sym, ◌∙◌, arith}
 use Rattle.std.proofs.lemmas.Grind.{common_steps}
 use Rattle.toml.specs.View.{table_view}
-use Rattle.cbsrun_tables.specs.declared.fault.Place.TheVariants.{Top}
-use Rattle.cbsrun_tables.specs.Documents.{at, document, no_memory}
-use Rattle.cbsrun_tables.proofs.Places.{Gives-at, gives_ok}
+use Rattle.cbsrun_toml_tables.specs.declared.fault.Place.TheVariants.{Top}
+use Rattle.cbsrun_toml_tables.specs.Documents.{at, document, no_memory}
+use Rattle.cbsrun_toml_tables.proofs.Places.{Gives-at, gives_ok}
 use Rattle.cbsrun_tasks.specs.Spelling.{file}
 use Rattle.cbsrun_tasks.proofs.file.read_whole.Goals as goal
 

@@ -1,10 +1,10 @@
 use Rattle.std.proofs.Common.{sym, ◌∙◌}
 use Rattle.std.proofs.lemmas.Result.{err_from_is_err_and}
 use Rattle.toml.specs.View.{view}
-use Rattle.cbsrun_tables.specs.declared.fault.Place.TheVariants.{Server}
+use Rattle.cbsrun_toml_tables.specs.declared.fault.Place.TheVariants.{Server}
 use Rattle.cbsrun_tasks.specs.Spelling.{admitted_entry}
-use Rattle.cbsrun_tables.proofs.TakenIn.{taken_on, taken_ends, taken_done}
-use Rattle.cbsrun_tables.proofs.Places.{seen_at, seen_at_err}
+use Rattle.cbsrun_toml_tables.proofs.TakenIn.{taken_on, taken_ends, taken_done}
+use Rattle.cbsrun_toml_tables.proofs.Places.{seen_at, seen_at_err}
 use Rattle.cbsrun_tasks.proofs.file.setup_of.Goals as goal
 
 pub returns-in_err-at : goal.returns-in_err-at

@@ -1,7 +1,7 @@
 use Rattle.std.proofs.Common.{◌≡◌, map, drop}
 use Rattle.toml.specs.View.{view}
 use Rattle.cbsrun_tasks.specs.Spelling.{admitted_entry}
-use Rattle.cbsrun_tables.specs.Documents.{taken_in}
+use Rattle.cbsrun_toml_tables.specs.Documents.{taken_in}
 use Rattle.cbs_rules.specs.Setups.{no_servers}
 use Rattle.cbsrun_tasks.proofs.file.setup_of.Given as goal
 

@@ -1,12 +1,12 @@
 use Rattle.std.proofs.Common.{◌≡◌, drop}
 use Rattle.std.specs.Prelude.{All}
 use Rattle.toml.specs.View.{view}
-use Rattle.cbsrun_tables.specs.declared.fault.Place.TheVariants.{Step as AtStep}
+use Rattle.cbsrun_toml_tables.specs.declared.fault.Place.TheVariants.{Step as AtStep}
 use Rattle.cbsrun_tasks.specs.Entries.{step_entry}
-use Rattle.cbsrun_tables.specs.Fields.{each_from}
-use Rattle.cbsrun_tables.specs.Documents.{at}
+use Rattle.cbsrun_toml_tables.specs.Fields.{each_from}
+use Rattle.cbsrun_toml_tables.specs.Documents.{at}
 use Rattle.cbsrun_tasks.specs.TaskFiles.{IsFileStep}
-use Rattle.cbsrun_tables.proofs.Each.{with_front}
+use Rattle.cbsrun_toml_tables.proofs.Each.{with_front}
 use Rattle.cbsrun_tasks.proofs.file.steps_of.Given as goal
 
 abbrev pub invariant-loop-i : goal.invariant-loop-i

@@ -1,11 +1,11 @@
 use Rattle.std.proofs.Common.{◌≡◌, rules, Ok, map, sym, ◌∙◌, length, refl, arith}
 use Rattle.std.proofs.lemmas.Grind.{common_steps}
 use Rattle.toml.specs.View.{view, table_view}
-use Rattle.cbsrun_tables.specs.declared.fault.Place.TheVariants.{Step as AtStep}
+use Rattle.cbsrun_toml_tables.specs.declared.fault.Place.TheVariants.{Step as AtStep}
 use Rattle.cbsrun_tasks.specs.Entries.{step_entry}
-use Rattle.cbsrun_tables.specs.Fields.{each_from}
+use Rattle.cbsrun_toml_tables.specs.Fields.{each_from}
 use Rattle.cbsrun_tasks.specs.Spelling.{admitted_entry}
-use Rattle.cbsrun_tables.specs.Documents.{at, taken_in}
+use Rattle.cbsrun_toml_tables.specs.Documents.{at, taken_in}
 use Rattle.cbsrun_tasks.specs.TopTables.{top_table, top_view}
 use Rattle.cbs_rules.specs.Setups.{no_servers}
 use Rattle.cbsrun_tasks.proofs.file.tasks_in.Goals as goal

@@ -3,7 +3,7 @@ use Rattle.std.specs.Str.{is_utf8}
 use Rattle.std.proofs.lemmas.Str.{is_utf8-from_IsUtf8}
 use Rattle.toml.specs.Data.{get_member}
 use Rattle.toml.specs.View.{table_view}
-use Rattle.cbsrun_tables.specs.Documents.{has_key}
+use Rattle.cbsrun_toml_tables.specs.Documents.{has_key}
 use Rattle.cbsrun_toml.proofs.Puts.{has_key as key_found}
 use Rattle.cbsrun_tasks.proofs.ReadApart.{load_key, whole_table}
 use Rattle.cbsrun_tasks.proofs.kinds.find_apart.Goals as goal

@@ -2,9 +2,9 @@ use Rattle.std.proofs.Common.{◌≡◌, ◌∙◌, refl, sym, codes, false, is_
 use Rattle.toml.specs.Data.{get_member}
 use Rattle.toml.specs.View.{table_view}
 use Rattle.cbsrun_toml.proofs.Puts.{has_key as key_found}
-use Rattle.cbsrun_tables.specs.declared.fault.Place.TheVariants.{Top}
-use Rattle.cbsrun_tables.specs.Documents.{at, document, has_key, no_memory}
-use Rattle.cbsrun_tables.proofs.Places.{Gives-at, gives_ok}
+use Rattle.cbsrun_toml_tables.specs.declared.fault.Place.TheVariants.{Top}
+use Rattle.cbsrun_toml_tables.specs.Documents.{at, document, has_key, no_memory}
+use Rattle.cbsrun_toml_tables.proofs.Places.{Gives-at, gives_ok}
 use Rattle.cbsrun_tasks.proofs.ReadApart.{file_of_table}
 use Rattle.cbsrun_tasks.proofs.kinds.find_whole.Goals as goal
 

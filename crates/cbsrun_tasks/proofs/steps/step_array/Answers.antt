@@ -4,7 +4,7 @@ use Rattle.toml_parser.specs.Lexical.{first, skip_blank}
 use Rattle.toml.specs.Data.{no_items, push_item}
 use Rattle.toml.specs.Parse.{val}
 use Rattle.toml.proofs.Turns.{items_end, items_more, items_bad, items_bad_end}
-use Rattle.cbsrun_tables.specs.Fields.{list_of}
+use Rattle.cbsrun_toml_tables.specs.Fields.{list_of}
 use Rattle.cbsrun_tasks.proofs.StepsRead.{steps_err, list_of-push}
 use Rattle.cbsrun_tasks.proofs.steps.step_array.Goals as goal
 

@@ -3,7 +3,7 @@ use denote.Text.{Utf8}
 use denote.Shadow.{shadow}
 use Rattle.toml.specs.Data.{Items, no_items}
 use Rattle.toml.specs.Parse.{val, items}
-use Rattle.cbsrun_tables.specs.Fields.{list_of}
+use Rattle.cbsrun_toml_tables.specs.Fields.{list_of}
 use Rattle.cbsrun_tasks.specs.Streams.{Spells}
 use Rattle.cbsrun_tasks.proofs.steps.step_array.Given as goal
 

@@ -8,7 +8,7 @@ use Rattle.toml.proofs.Turns.{lines_end, lines_more, lines_bad}
 use Rattle.cbsrun_toml.specs.Reading.{growing}
 use Rattle.cbsrun_toml.proofs.Growing.{place_growing, next_table}
 use Rattle.cbsrun_toml_tokens.proofs.Results.{stops_by}
-use Rattle.cbsrun_tables.specs.Fields.{list_of}
+use Rattle.cbsrun_toml_tables.specs.Fields.{list_of}
 use Rattle.cbsrun_tasks.specs.Streams.{Spells}
 use Rattle.cbsrun_toml.proofs.Members.{close-insert}
 use Rattle.cbsrun_tasks.proofs.StepsRead.{list_of-push}

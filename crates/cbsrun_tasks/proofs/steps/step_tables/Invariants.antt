@@ -5,7 +5,7 @@ use Rattle.toml.specs.Data.{Items, no_items}
 use Rattle.toml.specs.Tables.{Nodes, no_nodes}
 use Rattle.toml.specs.Parse.{lines}
 use Rattle.cbsrun_toml.specs.Reading.{growing}
-use Rattle.cbsrun_tables.specs.Fields.{list_of}
+use Rattle.cbsrun_toml_tables.specs.Fields.{list_of}
 use Rattle.cbsrun_tasks.specs.Streams.{Spells}
 use Rattle.cbsrun_tasks.proofs.steps.step_tables.Given as goal
 
