@@ -1,8 +1,7 @@
 -- The notes of the servers that are not in time.
 use Rattle.std.proofs.Common.{◌≡◌, ◌∙◌, ℕ, ◌<◌, List, [], ◌∷◌, ◌++◌, codes, length, refl, ap, arith}
 use Rattle.std.specs.Prelude.{flat_map}
-use Rattle.cbsrun_report_text.specs.Notes.{note_text, note_if_wrong, notes_text}
-use Rattle.cbsrun_report_text.specs.Verdicts.{is_wrong, not_in_time}
+use Rattle.cbsrun_report_text.specs.Notes.{note_text, note_if_wrong, notes_text, is_wrong, not_in_time}
 use Rattle.cbsrun_report_text.specs.declared.report.ServerReport.{ServerReport}
 use Rattle.cbsrun_report_text.proofs.Filters.{filtered_pieces}
 

@@ -3,4 +3,3 @@ pub mod Notes
 pub mod Reports
 pub mod Tables
 pub mod Texts
-pub mod Verdicts

@@ -2,8 +2,7 @@
 
 ghost use Rattle.std.specs.Prelude.{◌≡◌, ◌++◌, ◌≤◌, ◌^◌, ◌<◌, OnOk, string_bytes};
 ghost use Rattle.cbs_rate.specs.Limits.{longest_period};
-ghost use Rattle.cbsrun_report_text.specs.Notes.{asked_text, cover_of, cover_text, remedy_text, note_if_wrong, notes_text};
-ghost use Rattle.cbsrun_report_text.specs.Verdicts.{not_in_time};
+ghost use Rattle.cbsrun_report_text.specs.Notes.{asked_text, cover_of, cover_text, remedy_text, note_if_wrong, notes_text, not_in_time};
 
 use crate::numbers::Percent;
 use crate::report::ServerReport;

@@ -2,7 +2,7 @@
 
 ghost use Rattle.std.specs.Prelude.{◌≡◌, ◌++◌, ◌≤◌, OnOk, length, position, string_bytes};
 ghost use Rattle.cbsrun_report_text.specs.Reports.{released, sum_of};
-ghost use Rattle.cbsrun_report_text.specs.Verdicts.{is_wrong, not_in_time, late_text, refused_text, wrong_text, others_text, server_text, first_text, verdict_text};
+ghost use Rattle.cbsrun_report_text.specs.Notes.{is_wrong, not_in_time, late_text, refused_text, wrong_text, others_text, server_text, first_text, verdict_text};
 
 use crate::report::ServerReport;
 use crate::totals::Total;

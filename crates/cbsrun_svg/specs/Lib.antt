@@ -1,4 +1,3 @@
 pub mod Heads
 pub mod Pictures
 pub mod Rows
-pub mod Scales

@@ -8,11 +8,10 @@ use Rattle.cbsrun_window.specs.declared.window.Window.{Window}
 use Rattle.cbsrun_svg_shapes.specs.Axes.{AxisSeen, axis_of, right_of}
 use Rattle.cbsrun_svg_shapes.specs.Columns.{cell_counts}
 use Rattle.cbsrun_svg_shapes.specs.Shapes.{escaped, label_text, path_text, stretch_text}
-use Rattle.cbsrun_svg.specs.Heads.{heading_text, sentence_text, summary_text}
+use Rattle.cbsrun_svg.specs.Heads.{heading_text, sentence_text, summary_text, numbers_text, scale_text, ticks_numbered, uprights_text}
 use Rattle.cbsrun_svg_shapes.specs.Layouts.{layout_of}
 use Rattle.cbsrun_svg_shapes.specs.declared.layout.Layout.{Layout}
 use Rattle.cbsrun_svg.specs.Rows.{layer_text, row_text, short_terms_text, terms_text}
-use Rattle.cbsrun_svg.specs.Scales.{numbers_text, scale_text, ticks_numbered, uprights_text}
 use Rattle.cbsrun_svg_shapes.specs.declared.columns.Layer.TheVariants.{Idle}
 use Rattle.cbsrun_svg.specs.declared.style.TheConstants.{STYLE, LEGEND, BUDGET_LEGEND, COLUMN_LEGEND}
 

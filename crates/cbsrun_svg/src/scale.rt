@@ -2,7 +2,7 @@
 
 ghost use Rattle.std.specs.Prelude.{◌≡◌, ◌≤◌, ◌++◌, IfOk, OnOk, string_bytes};
 ghost use Rattle.std.specs.List.{find};
-ghost use Rattle.cbsrun_svg.specs.Scales.{axis_text, has_room, multiple, multiples, multiples_from, number_text, numbered_ticks, numbers_text, scale_text, small_mark, small_marks, step_of, ticks_numbered, uprights_text};
+ghost use Rattle.cbsrun_svg.specs.Heads.{axis_text, has_room, multiple, multiples, multiples_from, number_text, numbered_ticks, numbers_text, scale_text, small_mark, small_marks, step_of, ticks_numbered, uprights_text};
 
 use cbsrun_chart::Window;
 use cbsrun_svg_shapes::{Axis, append_label, append_upright};

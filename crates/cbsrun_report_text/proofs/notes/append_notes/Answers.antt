@@ -1,8 +1,7 @@
 use Rattle.std.proofs.Common.{◌∙◌, ◌<◌, ◌++◌, codes, length, string_bytes, sym, ap, arith}
 use Rattle.std.specs.Prelude.{flat_map}
 use Rattle.std.proofs.lemmas.List.{take_all}
-use Rattle.cbsrun_report_text.specs.Notes.{note_if_wrong}
-use Rattle.cbsrun_report_text.specs.Verdicts.{not_in_time}
+use Rattle.cbsrun_report_text.specs.Notes.{note_if_wrong, not_in_time}
 use Rattle.cbsrun_report_text.proofs.ServerNotes.{notes_are}
 use Rattle.cbsrun_report_text.proofs.notes.append_notes.Goals as goal
 

@@ -1,6 +1,6 @@
 use Rattle.std.proofs.Common.{◌≡◌, ◌∙◌, ◌+◌, ◌∷◌, drop, length, ap, sym, arith}
 use Rattle.std.proofs.lemmas.Slice.{between_to_end}
-use Rattle.cbsrun_report_text.specs.Verdicts.{is_wrong, not_in_time}
+use Rattle.cbsrun_report_text.specs.Notes.{is_wrong, not_in_time}
 use Rattle.cbsrun_report_text.proofs.Filters.{filter_from_position, filter_from_no_position}
 use Rattle.cbsrun_report_text.proofs.verdict.append_first.Goals as goal
 

@@ -1,6 +1,6 @@
 use Rattle.std.proofs.Common.{◌≡◌, ◌∙◌, ℕ, List, ◌++◌, append_assoc, ap, codes}
 use Rattle.std.proofs.lemmas.Result.{IfOk-equal}
-use Rattle.cbsrun_report_text.specs.Verdicts.{wrong_text, others_text}
+use Rattle.cbsrun_report_text.specs.Notes.{wrong_text, others_text}
 use Rattle.cbsrun_report_text.proofs.verdict.append_server.Goals as goal
 
 joined : (old name wrong others : List ℕ) → (old ++ (codes "not in time: " ++ (name ++ codes ": "))) ++ wrong ++ others

@@ -1,5 +1,5 @@
 use Rattle.std.proofs.Common.{append_assoc}
-use Rattle.cbsrun_svg.specs.Scales.{axis_text}
+use Rattle.cbsrun_svg.specs.Heads.{axis_text}
 use Rattle.cbsrun_svg.proofs.scale.append_axis.Goals as goal
 
 pub returns : goal.returns

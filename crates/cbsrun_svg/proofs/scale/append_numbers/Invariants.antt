@@ -1,6 +1,6 @@
 use Rattle.std.proofs.Common.{◌≡◌, ◌++◌, take, string_bytes}
 use Rattle.std.specs.Prelude.{flat_map}
-use Rattle.cbsrun_svg.specs.Scales.{number_text}
+use Rattle.cbsrun_svg.specs.Heads.{number_text}
 use Rattle.cbsrun_svg.proofs.scale.append_numbers.Given as goal
 
 abbrev pub invariant-loop-tick : goal.invariant-loop-tick

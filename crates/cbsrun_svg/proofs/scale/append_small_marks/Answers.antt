@@ -1,6 +1,6 @@
 use Rattle.std.proofs.Common.{◌∙◌, ◌++◌, ap, string_bytes, sym}
 use Rattle.std.specs.List.{flat_map, range_with_len}
-use Rattle.cbsrun_svg.specs.Scales.{small_mark}
+use Rattle.cbsrun_svg.specs.Heads.{small_mark}
 use Rattle.cbsrun_svg_shapes.proofs.Texts.{grown, numbered_more}
 use Rattle.cbsrun_svg.proofs.scale.append_small_marks.Goals as goal
 

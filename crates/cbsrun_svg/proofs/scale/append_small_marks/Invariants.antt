@@ -1,6 +1,6 @@
 use Rattle.std.proofs.Common.{◌≡◌, ◌++◌, string_bytes}
 use Rattle.std.specs.List.{flat_map, range_with_len}
-use Rattle.cbsrun_svg.specs.Scales.{small_mark}
+use Rattle.cbsrun_svg.specs.Heads.{small_mark}
 use Rattle.cbsrun_svg.proofs.scale.append_small_marks.Given as goal
 
 abbrev pub invariant-loop-place : goal.invariant-loop-place

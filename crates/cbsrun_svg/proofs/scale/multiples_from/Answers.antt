@@ -1,6 +1,6 @@
 use Rattle.std.proofs.Common.{◌∙◌, ◌∷◌, [], ◌++◌, ap, map, sym}
 use Rattle.std.specs.List.{range_with_len}
-use Rattle.cbsrun_svg.specs.Scales.{multiple}
+use Rattle.cbsrun_svg.specs.Heads.{multiple}
 use Rattle.cbsrun_svg_shapes.proofs.Texts.{mapped_more}
 use Rattle.cbsrun_svg.proofs.scale.multiples_from.Goals as goal
 

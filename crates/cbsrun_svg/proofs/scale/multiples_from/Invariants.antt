@@ -1,6 +1,6 @@
 use Rattle.std.proofs.Common.{◌≡◌, map}
 use Rattle.std.specs.List.{range_with_len}
-use Rattle.cbsrun_svg.specs.Scales.{multiple}
+use Rattle.cbsrun_svg.specs.Heads.{multiple}
 use Rattle.cbsrun_svg.proofs.scale.multiples_from.Given as goal
 
 abbrev pub invariant-loop-place : goal.invariant-loop-place
