@@ -1,6 +1,8 @@
 -- What a call on a handle does to what the handle holds: the effect of the call on the house or client, or a refusal.
 use Rattle.std.specs.Prelude.{ℕ, slice_get, ◌≡◌, ◌↔◌, IsTrue, ◌+◌, ◌<◌, ◌≤◌, Option, Some, None, Result, Ok, Err, length, map}
 use Rattle.std.specs.Global.{Global}
+use Rattle.cbs_core.specs.Agreement.{Agrees}
+use Rattle.cbs_steps.specs.History.{History}
 use Rattle.cbs_steps.specs.declared.charges.Charges as charges
 use Rattle.cbs_steps.specs.declared.view.ServerView.{ServerView}
 use Rattle.cbs_steps.specs.declared.reply.Ran.{Ran}
@@ -155,6 +157,10 @@ Shows s old (Err _) new = ⊥
 abbrev pub Promises : ℕ → TheHouse → Result (Option ℕ) Refusal → TheHouse → Type 0
 Promises s old (Ok tick) new = HasServer s old × (new ≡ old) × PromiseOf counting s old tick
 Promises s old (Err e) new = RefusesServer s old e new
+
+-- it holds of each history that the house in the handle agrees with
+abbrev pub HoldsInside : Option Held → (History UnitJob → Type 0) → Type 0
+HoldsInside held says = (h : TheHouse) → held ≡ Some (House h) → (M : History UnitJob) → Agrees counting (core_of h) M → says M
 
 -- the result is how many slots of its ring the client does not know to be free
 abbrev pub Waits : TheClient → Result ℕ Refusal → TheClient → Type 0

@@ -4,7 +4,7 @@ ghost use Rattle.std.specs.Prelude.{◌≡◌, ◌⊎◌, ℕ, ◌≤◌, ◌<�
 ghost use Rattle.std.specs.Int.{div_ceil};
 ghost use Rattle.std.specs.List.{AllByRecursion};
 ghost use Rattle.cbs_rate.specs.Limits.{most_servers};
-ghost use Rattle.cbs_guarantee.specs.Sources.{streams_of, NoneOverruns, IsOneAtATime, IsPromised, IsSource, IsReason, IsOverrunReason, HaveStreams, AreBorne};
+ghost use Rattle.cbs_guarantee.specs.Sources.{streams_of, NoneOverruns, IsOneAtATime, IsPromised, IsSource, IsReason, IsReasonAlways, IsOverrunReason, HaveStreams, AreBorne};
 ghost use Rattle.cbs_guarantee.specs.Streams.{all_spans};
 
 use crate::source::{NotPromised, Source};
@@ -50,7 +50,7 @@ pub fn guaranteed(
 fn spans_of(server: Reservation, sources: &[Source]) -> Result<u64, NotPromised>
     ensures answer { MatchResult result (λ spans.
         (spans ≡ all_spans (streams_of server sources.now)) × AreBorne server sources.now)
-        (λ why. (delay backlog : ℕ) → IsReason server sources.now delay backlog why) }
+        (IsReasonAlways server sources.now) }
     ensures short { IfOk result (λ spans. spans ≤ 64 * 1_000_000_000) }
 {
     check_each(server, sources)?;
@@ -69,8 +69,8 @@ fn spans_of(server: Reservation, sources: &[Source]) -> Result<u64, NotPromised>
 
 /// Checks that each source has a stream on the server. Returns the reason if one has none.
 fn check_each(server: Reservation, sources: &[Source]) -> Result<(), NotPromised>
-    ensures { MatchResult result (λ _. HaveStreams server sources.now) (λ why. (delay backlog : ℕ)
-        → IsReason server sources.now delay backlog why) }
+    ensures { MatchResult result (λ _. HaveStreams server sources.now)
+        (IsReasonAlways server sources.now) }
 {
     for source in sources {
         source.stream_on(server)?;

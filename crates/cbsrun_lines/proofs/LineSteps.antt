@@ -3,9 +3,8 @@ use Rattle.std.proofs.Common.{◌≡◌, ◌+◌, ◌++◌, ℕ, true, false, Li
 use Rattle.std.specs.Prelude.{IsOk, OnErr, OnOk}
 use Rattle.std.proofs.lemmas.List.{append-nil}
 use Rattle.cbsrun_events.specs.declared.seen.Seen.{Seen}
-use Rattle.cbsrun_lines.specs.Lines.{lines_of, line_of}
+use Rattle.cbsrun_lines.specs.Lines.{lines_of, line_of, HasWritten, FailedToWrite, WroteSome, WroteShown}
 use Rattle.cbsrun_lines.specs.Traces.{WritesSomeLines}
-use Rattle.cbsrun_lines.specs.WritingLines.{HasWritten, FailedToWrite, WroteSome, WroteShown}
 use Rattle.cbsrun_lines.specs.Writers.{Writer, Writes, WritesAllBut, FailsToWrite}
 use Rattle.cbsrun_io.specs.Writers.{AppendsFront, AppendsAllBut}
 use Rattle.cbsrun_lines.specs.declared.lines.Lines.{Lines}

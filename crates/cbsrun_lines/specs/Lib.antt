@@ -1,7 +1,6 @@
 pub mod Lines
 pub mod Traces
 pub mod Writers
-pub mod WritingLines
 -- what the clauses name of the libraries below
 pub use Rattle.cbsrun_events.specs.declared.seen.Seen
 pub use Rattle.cbsrun_runs.specs.Tasks

@@ -1,6 +1,6 @@
 -- The line of a step: the clock, the call, its result, and the state of a server. That server accepted a job, ran or was
 -- charged.
-use Rattle.std.specs.Prelude.{ℕ, List, [], ◌∷◌, ◌++◌, codes, decimal, Option, Some, None, if◌then◌else◌}
+use Rattle.std.specs.Prelude.{ℕ, List, [], ◌∷◌, ◌++◌, codes, decimal, Option, Some, None, if◌then◌else◌, ◌≡◌, ◌⊎◌, true, false, Result, Ok, Err}
 use Rattle.cbs_steps.specs.Errors.{core_error_name}
 use Rattle.cbs_steps.specs.declared.error.CoreError.{CoreError}
 use Rattle.cbs_steps.specs.declared.reply.Ran.{Ran}
@@ -9,6 +9,8 @@ use Rattle.cbs_steps.specs.declared.view.ServerView.{ServerView}
 use Rattle.cbsrun_events.specs.declared.seen.Event.{Event}
 use Rattle.cbsrun_events.specs.declared.seen.Event.TheVariants as event
 use Rattle.cbsrun_events.specs.declared.seen.Seen.{Seen}
+use Rattle.cbsrun_lines.specs.Writers.{Writer, WritesAllBut, FailsToWrite}
+use Rattle.cbsrun_lines.specs.declared.lines.Lines.{Lines}
 
 -- the call of a step
 abbrev pub call_text : Event → List ℕ
@@ -61,3 +63,27 @@ line_of o = codes "@" ++ decimal o.clock ++ codes " " ++ call_text o.event ++ re
 unfoldable pub lines_of : List Seen → List ℕ
 lines_of [] = []
 lines_of (o ∷ os) = lines_of os ++ line_of o
+
+-- the lines of the steps were written, except for the text that waits, and no call failed
+pub record HasWritten (lines : Lines) (old new : Writer) (seen : List Seen) : Type 0 where
+  pub well : lines.write_failed ≡ false
+  pub writes : WritesAllBut old new lines.pending (lines_of seen)
+
+-- a prefix of the lines was written, and then a call failed. Or the lines of all steps but the newest were written,
+-- except for the text that waits
+abbrev pub FailedToWrite : Lines → Writer → Writer → List Seen → Type 0
+FailedToWrite lines old new seen =
+    ((lines.write_failed ≡ true) × FailsToWrite old new (lines_of seen))
+    ⊎ ((o : Seen) × (os : List Seen) × (seen ≡ o ∷ os) × HasWritten lines old new os)
+
+-- the lines of the first steps were written so, up to some step, or the last of them could not be written
+pub record WroteSome (lines : Lines) (old new : Writer) (steps : List Seen) : Type 0 where
+  pub later : List Seen
+  pub done : List Seen
+  pub all : later ++ done ≡ steps
+  pub wrote : HasWritten lines old new done ⊎ FailedToWrite lines old new done
+
+-- what was written so of the lines of steps that were shown with this result
+abbrev pub WroteShown : {T E : Type 0} → Result T E → Lines → Writer → Writer → List Seen → Type 0
+WroteShown (Ok x) = HasWritten
+WroteShown (Err e) = WroteSome

@@ -5,7 +5,7 @@ ghost use Rattle.std.specs.Bool.{OnTrue};
 ghost use Rattle.cbsrun_events.specs.declared.seen.Seen.{Seen};
 ghost use Rattle.cbsrun_lines.specs.Traces.{LeavesLines};
 ghost use Rattle.cbsrun_lines.specs.Writers.{Writer, MayWrite};
-ghost use Rattle.cbsrun_lines.specs.WritingLines.{WroteShown};
+ghost use Rattle.cbsrun_lines.specs.Lines.{WroteShown};
 
 use crate::line::write_line;
 use crate::run_error::RunError;
@@ -59,7 +59,7 @@ impl Lines {
 
 impl<O: ByteOutput> View<O> for Lines {
     ghost use Rattle.cbsrun_lines.specs.Writers.{MayWrite};
-    ghost use Rattle.cbsrun_lines.specs.WritingLines.{HasWritten, FailedToWrite};
+    ghost use Rattle.cbsrun_lines.specs.Lines.{HasWritten, FailedToWrite};
 
     ghost ready = { λ lines out. MayWrite (O.state out) };
 

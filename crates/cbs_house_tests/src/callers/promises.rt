@@ -1,16 +1,14 @@
 //! Callers that use a promise of a house that took turns. They need only the contracts.
 
-ghost use Rattle.std.specs.Prelude.{◌≡◌, Some, IfOk, IfSome, length};
+ghost use Rattle.std.specs.Prelude.{IfOk, IfSome, length};
 ghost use Rattle.cbs_core.specs.Agreement.{Agrees};
 ghost use Rattle.cbs_steps.specs.History.{History};
 ghost use Rattle.cbs_steps.specs.Paced.{AllFinishedLate};
 ghost use Rattle.cbs_steps.specs.Promises.{AllFinishedBy};
 ghost use Rattle.cbs_clients.specs.Houses.{core_of};
-ghost use Rattle.cbs_embed.specs.Calls.{TheHouse};
+ghost use Rattle.cbs_embed.specs.Calls.{HoldsInside};
 ghost use Rattle.cbs_embed.specs.Jobs.{counting};
 ghost use Rattle.cbs_embed.specs.Handles.{held_by};
-ghost use Rattle.cbs_embed.specs.declared.held.Held.TheVariants as held;
-ghost use Rattle.cbs_embed.specs.declared.job.UnitJob as job;
 
 use cbs_embed::{Handle, Refusal, Server, calls, open};
 use cbs_house::{House, HouseError, open_house};
@@ -73,9 +71,8 @@ pub fn told_after_turns(
     clients: &mut [Handle],
     turns: u64,
 ) -> Result<Option<u128>, Refusal>
-    ensures { IfOk result (λ told. (h : TheHouse) → held_by house.new ≡ Some (held.House h)
-        → IfSome told (λ tick. (M : History job.UnitJob) → Agrees counting (core_of h) M
-        → AllFinishedBy counting M 0 tick)) }
+    ensures { IfOk result (λ told. HoldsInside (held_by house.new)
+        (λ M. IfSome told (AllFinishedBy counting M 0))) }
 {
     open(alloc, servers, 4, 4, house, clients)?;
     for _ in 0..turns {
@@ -94,9 +91,8 @@ pub fn told_after_charge(
     turns: u64,
     ticks: u64,
 ) -> Result<Option<u128>, Refusal>
-    ensures { IfOk result (λ told. (h : TheHouse) → held_by house.new ≡ Some (held.House h)
-        → IfSome told (λ tick. (M : History job.UnitJob) → Agrees counting (core_of h) M
-        → AllFinishedLate counting M 0 tick)) }
+    ensures { IfOk result (λ told. HoldsInside (held_by house.new)
+        (λ M. IfSome told (AllFinishedLate counting M 0))) }
 {
     open(alloc, servers, 4, 4, house, clients)?;
     for _ in 0..turns {
