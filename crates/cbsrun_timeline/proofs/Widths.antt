@@ -4,7 +4,7 @@ use Rattle.std.specs.Prelude.{get_or, max}
 use Rattle.std.proofs.lemmas.List.{take_more}
 use Rattle.std.proofs.lemmas.List.Recursion.{max_push}
 use Rattle.cbsrun_chart.specs.declared.picture.Drawn.{Drawn}
-use Rattle.cbsrun_timeline.specs.Grids.{width_of}
+use Rattle.cbsrun_timeline.specs.Signs.{width_of}
 
 -- the widest of the first names, with the next one
 pub width_next : (ds : List Drawn) (i : ℕ) (d : Drawn) → i < length ds

@@ -5,8 +5,7 @@ use Rattle.std.specs.List.{range_with_len, list_any}
 use Rattle.std.specs.Str.{trim_end}
 use Rattle.cbsrun_chart.specs.declared.chart.ServerChart.{ServerChart}
 use Rattle.cbsrun_chart.specs.declared.picture.Drawn.{Drawn}
-use Rattle.cbsrun_timeline.specs.Grids.{GridSeen, tick_of, blocks_of, count_of, first_of, grid_of, is_fine}
-use Rattle.cbsrun_timeline.specs.Signs.{blank, column_mark, column_sign}
+use Rattle.cbsrun_timeline.specs.Signs.{GridSeen, tick_of, blocks_of, count_of, first_of, grid_of, is_fine, blank, column_mark, column_sign}
 use Rattle.cbsrun_window.specs.Counts.{counts_of}
 use Rattle.cbsrun_chart.specs.declared.picture.Picture.{Picture}
 use Rattle.cbsrun_window.specs.declared.window.Window.{Window}

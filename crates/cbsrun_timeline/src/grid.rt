@@ -1,7 +1,7 @@
 //! The ticks that the columns of a timeline stand for.
 
 ghost use Rattle.std.specs.Prelude.{◌≡◌, ◌+◌, ◌-◌, ◌≤◌, ◌<◌, IfOk};
-ghost use Rattle.cbsrun_timeline.specs.Grids.{blocks_of, cell_of, columns_of, count_of, end_of, first_of, grid_of, is_fine, plot_of, step_of, tick_of, width_of};
+ghost use Rattle.cbsrun_timeline.specs.Signs.{blocks_of, cell_of, columns_of, count_of, end_of, first_of, grid_of, is_fine, plot_of, step_of, tick_of, width_of};
 
 use cbsrun_chart::{Drawn, Picture};
 use cbsrun_text::digits_of;
@@ -20,7 +20,7 @@ pub(crate) struct Grid {
 }
 
 impl Model for Grid {
-    ghost use Rattle.cbsrun_timeline.specs.Grids.{GridSeen, IsGrid};
+    ghost use Rattle.cbsrun_timeline.specs.Signs.{GridSeen, IsGrid};
 
     ghost Value = { GridSeen };
 

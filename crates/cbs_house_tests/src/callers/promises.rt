@@ -1,6 +1,6 @@
 //! Callers that use a promise of a house that took turns. They need only the contracts.
 
-ghost use Rattle.std.specs.Prelude.{IfOk, IfSome, length};
+ghost use Rattle.std.specs.Prelude.{◌≡◌, IfOk, IfSome, length};
 ghost use Rattle.cbs_core.specs.Agreement.{Agrees};
 ghost use Rattle.cbs_steps.specs.History.{History};
 ghost use Rattle.cbs_steps.specs.Paced.{AllFinishedLate};

@@ -1,5 +1,5 @@
 use Rattle.std.proofs.Common.{◌≡◌, take}
-use Rattle.cbsrun_timeline.specs.Grids.{width_of}
+use Rattle.cbsrun_timeline.specs.Signs.{width_of}
 use Rattle.cbsrun_timeline.proofs.grid.width_of.Given as goal
 
 abbrev pub invariant-loop-server : goal.invariant-loop-server
