@@ -16,7 +16,7 @@ use cbsrun_commands::{
     simulate_bytes_within, simulate_lines_within, write_pieces, write_read_fault, write_run_fault,
 };
 use cbsrun_tasks::MEMORY;
-use cbsrun_terminal::Painted;
+use cbsrun_text_colours::Painted;
 use std::alloc::{AllocError, Global};
 use std::env;
 use std::env::VarError;

@@ -139,7 +139,7 @@ pub struct Painted<W> {
 }
 
 impl<W> Model for Painted<W> {
-    ghost use Rattle.cbsrun_terminal.specs.Painting.{Painting};
+    ghost use Rattle.cbsrun_text_colours.specs.Painting.{Painting};
 
     ghost Value = { Painting W };
 
@@ -175,7 +175,7 @@ impl<W: Write> Painted<W> {
 }
 
 impl<W: Write> Write for Painted<W> {
-    ghost use Rattle.cbsrun_terminal.specs.Painting.{contents_of};
+    ghost use Rattle.cbsrun_text_colours.specs.Painting.{contents_of};
 
     // What is painted is not known.
     ghost contents = { contents_of W.contents };
