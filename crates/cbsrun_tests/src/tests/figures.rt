@@ -100,10 +100,14 @@ fn figures_of(
     (figures, idle)
 }
 
-#[test]
-fn a_late_job_a_refused_one_and_a_charge_are_told(rt: HostRuntime) {
-    let alloc = rt.alloc();
-    let steps = [
+/// A charge of the server 0.
+fn charge(ticks: u64) -> Event {
+    Event::Charged { server: 0, ticks }
+}
+
+/// Eight steps of one server: a job that is late, one that is refused, a charge, and a job that is not finished.
+fn late_refused_and_charged() -> [(u64, Event, Option<ServerView>); 8] {
+    [
         (
             0,
             accepted(job(0, 0, 3, Some(5)), 0, 10),
@@ -119,14 +123,7 @@ fn a_late_job_a_refused_one_and_a_charge_are_told(rt: HostRuntime) {
             },
             view(2, 10, false, 1, 0),
         ),
-        (
-            5,
-            Event::Charged {
-                server: 0,
-                ticks: 3,
-            },
-            view(1, 15, false, 1, 0),
-        ),
+        (5, charge(3), view(1, 15, false, 1, 0)),
         (6, last(0, 0), view(2, 20, false, 1, 1)),
         (10, Event::Advanced(4), None),
         (
@@ -134,7 +131,13 @@ fn a_late_job_a_refused_one_and_a_charge_are_told(rt: HostRuntime) {
             accepted(job(0, 10, 1, Some(2)), 1, 20),
             view(2, 15, false, 2, 1),
         ),
-    ];
+    ]
+}
+
+#[test]
+fn a_late_job_a_refused_one_and_a_charge_are_told(rt: HostRuntime) {
+    let alloc = rt.alloc();
+    let steps = late_refused_and_charged();
     let (figures, idle) = figures_of(&rt, alloc, &plan_of(&rt, &[(2, 5)]), &steps, 12);
     assert!(rt; idle == 4);
     assert!(rt; figures.len() == 1);
@@ -166,11 +169,6 @@ fn a_late_job_a_refused_one_and_a_charge_are_told(rt: HostRuntime) {
                 early_least: Some(4),
             }
     );
-}
-
-/// A charge of the server 0.
-fn charge(ticks: u64) -> Event {
-    Event::Charged { server: 0, ticks }
 }
 
 /// Tests how long the jobs of server 0 took at least and at most, how many were late, and the least of the ticks by
