@@ -18,11 +18,11 @@ pub record AtPair (text rest : List ℕ) (ns : Nodes) : Type 0 where
 pub at_pair : (text rest start : List ℕ) (ns : Nodes) (m : ℕ) (empty : Bool) (byte : ℕ) → length rest < m
     → lines (suc (length text)) (no_nodes, []) (skip_bom text) ≡ lines m (ns, []) rest → start ≡ skip_blank rest
     → empty ≡ (length start == 0) → empty ≡ false → byte ≡ first start → byte ≢ 91 → AtPair text rest ns
-at_pair text rest start ns m empty byte room before start_is empty_is no byte_is other = record {
+at_pair text rest start ns m empty byte room before start_is empty_is left byte_is other = record {
   turns = m;
   room = room;
   before = before;
-  more = rw (← start_is, ← empty_is) no;
+  more = rw (← start_is, ← empty_is) left;
   pair = rw (← start_is, ← byte_is) (ne_eqb _ _ other);
 }
 
