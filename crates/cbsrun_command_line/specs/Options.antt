@@ -29,10 +29,13 @@ text_of o = option_map (λ s. s.now) o
 abbrev pub said : Option (Bor Text) → Option (Bor Text) → Option (Bor Text) → Said
 said form from to = record { form = text_of form; from = text_of from; to = text_of to }
 
+-- the number that the digits of a text spell
+abbrev pub number_in : Text → ℕ
+number_in text = digits_value 10 (without_leading_plus text)
+
 -- the text is a whole number below 2^64, namely n
 abbrev pub Spells : Text → ℕ → Type 0
-Spells text n =
-    IsNumeral 10 (without_leading_plus text) × (digits_value 10 (without_leading_plus text) < 2 ^ 64) × (n ≡ digits_value 10 (without_leading_plus text))
+Spells text n = IsNumeral 10 (without_leading_plus text) × (number_in text < 2 ^ 64) × (n ≡ number_in text)
 
 -- the tick that an option gives, or another tick if the option is not there
 abbrev pub IsTick : Option Text → ℕ → ℕ → Type 0
