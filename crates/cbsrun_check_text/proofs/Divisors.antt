@@ -5,7 +5,7 @@ use Rattle.std.proofs.lemmas.Bool.{cases_lt}
 use Rattle.std.proofs.lemmas.Bool.Decides.{eqb_tells}
 use Rattle.std.proofs.lemmas.Nat.Gcd.{dvd_of_mod-eq-zero, mod-eq-zero_of_dvd, le_of_dvd, le_from_IsGcd}
 use Rattle.cbs_rate.proofs.Multiples.{some_from_dvd}
-use Rattle.cbsrun_check_text.specs.Cells.{divisor_up_to, greatest_divisor}
+use Rattle.cbsrun_check_text.specs.Fractions.{divisor_up_to, greatest_divisor}
 
 -- a divisor is below a number that does not divide
 below : (x g n : ℕ) → ¬ (x % suc n ≡ 0) → g ∣ x → g ≤ suc n → g ≤ n

@@ -1,4 +1,5 @@
 pub mod Cells
 pub mod Checks
+pub mod Fractions
 pub mod Notes
 pub mod Tables

@@ -9,7 +9,7 @@ use Rattle.cbsrun_loads.specs.Loads.{most_sources}
 use Rattle.cbsrun_sizing.specs.ServerLoads.{no_load}
 use Rattle.cbsrun_sizing.specs.declared.asked.Asked.{Asked}
 use Rattle.cbsrun_sizing.specs.declared.server_load.ServerLoad.{ServerLoad}
-use Rattle.cbsrun_check_text.specs.Cells.{fraction_text}
+use Rattle.cbsrun_check_text.specs.Fractions.{fraction_text}
 use Rattle.cbsrun_check_text.specs.Tables.{name_at}
 
 -- the demand is within the limits of exact sums

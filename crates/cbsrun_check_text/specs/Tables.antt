@@ -9,7 +9,7 @@ use Rattle.cbs_rules.specs.declared.mode.Mode.TheVariants.{Soft}
 use Rattle.cbsrun_sizing.specs.Budgets.{reserved, is_within}
 use Rattle.cbsrun_text.specs.Columns.{CellText, plain, columns_text, marked_if}
 use Rattle.cbsrun_text.specs.Numbers.{mode_word, number_text}
-use Rattle.cbsrun_check_text.specs.Cells.{fraction_text, percent_text}
+use Rattle.cbsrun_check_text.specs.Fractions.{fraction_text, percent_text}
 use Rattle.cbsrun_simulate.specs.Bounds.{Bounds}
 use Rattle.cbsrun_simulate.specs.declared.terms.SourceTerms.{SourceTerms}
 use Rattle.cbsrun_sizing.specs.ServerLoads.{no_load}

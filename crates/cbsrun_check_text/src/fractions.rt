@@ -1,7 +1,7 @@
 //! Shares of the time as text.
 
 ghost use Rattle.std.specs.Prelude.{◌≡◌, ◌++◌, ◌+◌, ◌^◌, ◌<◌, IfOk, OnOk, string_bytes};
-ghost use Rattle.cbsrun_check_text.specs.Cells.{greatest_divisor, fraction_text, percent_text};
+ghost use Rattle.cbsrun_check_text.specs.Fractions.{greatest_divisor, fraction_text, percent_text};
 
 use cbsrun_sizing::greatest_common_divisor;
 use cbsrun_text::append_pair;

@@ -28,7 +28,7 @@ use Rattle.cbs_clients.proofs.Moves.{serves_rings}
 use Rattle.cbs_core.proofs.Laws.{new_count, terms_count}
 use Rattle.cbsrun_tasks.specs.TaskFiles.{File, IsFile}
 use Rattle.cbsrun_commands.specs.ResultLines.{jobs_for, results_by_server}
-use Rattle.cbsrun_commands.specs.ServingStops.{ComesTo, IsLeftOpen, HouseStops}
+use Rattle.cbsrun_commands.specs.Verbs.{ComesTo, IsLeftOpen, HouseStops}
 use Rattle.cbsrun_runs.specs.Tasks.{start_of_tasks}
 use Rattle.cbsrun_commands.proofs.ServedJobs.{jobs_taken, received_first, some_open, feeds_orderly}
 

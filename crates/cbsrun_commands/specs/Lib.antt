@@ -3,7 +3,6 @@ pub mod Environment
 pub mod FaultLines
 pub mod Outputs
 pub mod ResultLines
-pub mod ServingStops
 pub mod Verbs
 -- what the clauses name of the libraries below
 pub use Rattle.cbs_clients.specs.Houses

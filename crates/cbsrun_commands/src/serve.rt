@@ -11,7 +11,7 @@ ghost use Rattle.cbs_house.specs.Rounds.{Ready};
 ghost use Rattle.cbs_job.specs.FileJobs.{of_files};
 ghost use Rattle.cbsrun_tasks.specs.TaskFiles.{IsFile};
 ghost use Rattle.cbsrun_commands.specs.ResultLines.{jobs_for, result_lines, results_by_server};
-ghost use Rattle.cbsrun_commands.specs.ServingStops.{HouseStops, ServeStops, fault_of};
+ghost use Rattle.cbsrun_commands.specs.Verbs.{HouseStops, ServeStops, fault_of};
 ghost use Rattle.cbsrun_runs.specs.Tasks.{start_of_tasks};
 ghost use Rattle.cbsrun_lines.specs.Writers.{Leaves, MayWrite};
 

@@ -12,7 +12,7 @@ use Rattle.cbsrun_sizing.specs.Budgets.{reserved}
 use Rattle.cbs_guarantee.specs.Parts.{AreParts, IsSplitReason}
 use Rattle.cbs_guarantee.specs.declared.parts.Part.{Part}
 use Rattle.cbs_guarantee.specs.declared.parts.SplitError.TheVariants as error
-use Rattle.cbsrun_check_text.specs.Cells.{fraction_text, percent_text}
+use Rattle.cbsrun_check_text.specs.Fractions.{fraction_text, percent_text}
 use Rattle.cbsrun_faults.specs.Documents.{name_at}
 use Rattle.cbsrun_faults.specs.Refused.{AreReservations}
 use Rattle.cbsrun_faults.specs.declared.refused.Refused.{Refused}

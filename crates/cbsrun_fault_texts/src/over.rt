@@ -7,7 +7,7 @@ ghost use Rattle.cbs_rate.specs.Plan.{admit_refusal};
 ghost use Rattle.cbs_rate.specs.Rate.{IsRate};
 ghost use Rattle.cbs_rate.specs.Room.{IsLeastPeriod};
 ghost use Rattle.cbs_rate.specs.declared.error.AdmitError.TheVariants.{OverBound};
-ghost use Rattle.cbsrun_check_text.specs.Cells.{fraction_text, percent_text};
+ghost use Rattle.cbsrun_check_text.specs.Fractions.{fraction_text, percent_text};
 ghost use Rattle.cbsrun_fault_texts.specs.Over.{row, before_label, before_row, own_row, sum_text, IsHelp, IsHelpThat, TellsGreatest, TellsLeast, TellsLeastIfAny, server_word, separator, servers_text, part_line, alone_words, IsPartsText, TellsSplit, AreHelps, IsOverText, IsShare, IsShortened};
 ghost use Rattle.cbsrun_fault_texts.specs.Pages.{Appends, AppendsA};
 ghost use Rattle.cbsrun_fault_texts.specs.Refusals.{IsSpotLine};

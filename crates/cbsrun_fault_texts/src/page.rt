@@ -2,7 +2,7 @@
 
 ghost use Rattle.std.specs.Prelude.{◌≡◌, ◌+◌, ◌++◌, ◌≤◌, ◌<◌, Bool, true, false, [], codes, decimal, map, IfOk, MatchResult, IfSome, MatchOption, Some, None, string_bytes};
 ghost use Rattle.std.specs.List.{concat};
-ghost use Rattle.cbsrun_check_text.specs.Cells.{fraction_text};
+ghost use Rattle.cbsrun_check_text.specs.Fractions.{fraction_text};
 ghost use Rattle.cbsrun_fault_texts.specs.Pages.{Appends, AppendsA, times, left_in, right_in, bar, marked_line, words_of, spaced, IsLaid, IsNote};
 ghost use Rattle.cbsrun_fault_texts.specs.Refusals.{IsSpotLine};
 

@@ -3,7 +3,8 @@ use Rattle.std.proofs.Common.{◌≡◌, ◌∙◌, ℕ, ◌+◌, ◌*◌, ◌/�
 use Rattle.std.proofs.Math.Nat.{mul-add-div}
 use Rattle.std.proofs.lemmas.Bool.Decides.{nat_tests}
 use Rattle.std.proofs.lemmas.Nat.{div-add-mod'}
-use Rattle.cbsrun_report_text.specs.Cells.{percent_tenths, percent_text, mean_tenths, mean_text}
+use Rattle.cbsrun_report_text.specs.Numbers.{percent_text, mean_text}
+use Rattle.cbsrun_report_text.specs.Numbers.{percent_tenths, mean_tenths}
 
 -- the tenths from the remainder
 abbrev rest_tenths : ℕ → ℕ → ℕ

@@ -5,7 +5,7 @@ use Rattle.cbsrun_figures.specs.declared.figures.Figures.{Figures}
 use Rattle.cbsrun_report_text.specs.Reports.{accepted, released, late, is_in_time, sum_of}
 use Rattle.cbsrun_report_text.specs.declared.report.ServerReport.{ServerReport}
 use Rattle.std.specs.Int.{div_ceil}
-use Rattle.cbsrun_report_text.specs.Cells.{percent_text}
+use Rattle.cbsrun_report_text.specs.Numbers.{percent_text}
 
 -- a job of the server is late or was refused
 abbrev pub is_wrong : ServerReport → Bool

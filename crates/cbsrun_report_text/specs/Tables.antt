@@ -5,7 +5,7 @@ use Rattle.cbsrun_text.specs.Numbers.{number_text}
 use Rattle.cbsrun_figures.specs.declared.figures.Figures.{Figures}
 use Rattle.cbsrun_figures.specs.declared.figures.Ranks.{Ranks}
 use Rattle.cbsrun_simulate.specs.Bounds.{Bounds}
-use Rattle.cbsrun_report_text.specs.Cells.{percent_text, mean_text}
+use Rattle.cbsrun_report_text.specs.Numbers.{percent_text, mean_text}
 use Rattle.cbsrun_report_text.specs.Reports.{released, late, is_in_time, sum_of}
 use Rattle.cbsrun_report_text.specs.declared.report.RunReport.{RunReport}
 use Rattle.cbsrun_report_text.specs.declared.report.ServerReport.{ServerReport}

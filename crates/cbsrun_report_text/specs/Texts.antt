@@ -2,7 +2,7 @@
 use Rattle.std.specs.Prelude.{ℕ, eqb, if◌then◌else◌, List, [], ◌++◌, codes, decimal, string_bytes}
 use Rattle.cbsrun_text.specs.Columns.{CellText, columns_text}
 use Rattle.cbsrun_report_text.specs.Notes.{notes_text, not_in_time, verdict_text}
-use Rattle.cbsrun_report_text.specs.Cells.{percent_text}
+use Rattle.cbsrun_report_text.specs.Numbers.{percent_text}
 use Rattle.cbsrun_report_text.specs.Reports.{sum_of}
 use Rattle.cbsrun_report_text.specs.Tables.{jobs_table, ticks_table, response_table, early_table, charges_table}
 use Rattle.cbsrun_report_text.specs.declared.report.RunReport.{RunReport}

@@ -1,7 +1,7 @@
 //! Shares and means, as a report prints them.
 
 ghost use Rattle.std.specs.Prelude.{◌≡◌, ◌/◌, ◌%◌, ◌^◌, ◌<◌};
-ghost use Rattle.cbsrun_report_text.specs.Cells.{percent_tenths, mean_tenths};
+ghost use Rattle.cbsrun_report_text.specs.Numbers.{percent_tenths, mean_tenths};
 
 use std::fmt;
 
@@ -35,7 +35,7 @@ impl Percent {
 
 impl fmt::Display for Percent {
     ghost use Rattle.std.specs.Prelude.{Some};
-    ghost use Rattle.cbsrun_report_text.specs.Cells.{percent_text};
+    ghost use Rattle.cbsrun_report_text.specs.Numbers.{percent_text};
 
     ghost output = { λ p. Some (percent_text p.part p.whole) };
 
@@ -75,7 +75,7 @@ impl Mean {
 
 impl fmt::Display for Mean {
     ghost use Rattle.std.specs.Prelude.{Some};
-    ghost use Rattle.cbsrun_report_text.specs.Cells.{mean_text};
+    ghost use Rattle.cbsrun_report_text.specs.Numbers.{mean_text};
 
     ghost output = { λ m. Some (mean_text m.total m.count) };
 

@@ -1,6 +1,6 @@
 use Rattle.std.proofs.Common.{◌++◌, codes, string_bytes}
 use Rattle.std.proofs.lemmas.Result.{IfOk-equal}
-use Rattle.cbsrun_check_text.specs.Cells.{fraction_text}
+use Rattle.cbsrun_check_text.specs.Fractions.{fraction_text}
 use Rattle.cbsrun_check_text.specs.Notes.{cover_text, least_cover, too_much_text}
 use Rattle.cbsrun_check_text.proofs.Texts.{pieces}
 use Rattle.cbsrun_check_text.proofs.notes.append_too_much.Goals as goal

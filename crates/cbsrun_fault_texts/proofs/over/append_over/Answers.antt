@@ -6,7 +6,7 @@ use Rattle.toml.specs.View.{view}
 use Rattle.cbs_rate.specs.Bound.{Fraction}
 use Rattle.cbs_rate.specs.declared.ratio.Ratio.{Ratio}
 use Rattle.cbs_rate.proofs.Rooms.{periods_next_some}
-use Rattle.cbsrun_check_text.specs.Cells.{fraction_text}
+use Rattle.cbsrun_check_text.specs.Fractions.{fraction_text}
 use Rattle.cbsrun_fault_texts.specs.Over.{over_line, sum_text, AreHelps, IsOverText}
 use Rattle.cbsrun_fault_texts.specs.Refusals.{IsSpotLine}
 use Rattle.cbsrun_fault_texts.proofs.Pages.{then, as_text, after, both}

@@ -7,7 +7,7 @@ use Rattle.cbs_rate.specs.Rate.{Rate}
 use Rattle.cbs_rate.specs.Plan.{common_multiple}
 use Rattle.cbs_rate.specs.declared.ratio.Ratio.{Ratio}
 use Rattle.cbsrun_sizing.specs.Budgets.{reserved}
-use Rattle.cbsrun_check_text.specs.Cells.{fraction_text}
+use Rattle.cbsrun_check_text.specs.Fractions.{fraction_text}
 use Rattle.cbsrun_fault_texts.specs.Over.{servers_text, part_line}
 use Rattle.cbsrun_fault_texts.proofs.Pages.{then, as_text}
 use Rattle.cbsrun_fault_texts.proofs.over.append_part.Goals as goal

@@ -1,7 +1,7 @@
 use Rattle.std.proofs.Common.{◌≡◌, ℕ, List, [], ◌++◌, ◌∙◌}
 use Rattle.std.specs.Prelude.{codes, string_bytes}
 use Rattle.std.proofs.lemmas.List.{append_assoc, append-nil}
-use Rattle.cbsrun_check_text.specs.Cells.{fraction_text, percent_text}
+use Rattle.cbsrun_check_text.specs.Fractions.{fraction_text, percent_text}
 use Rattle.cbsrun_fault_texts.specs.Over.{row}
 use Rattle.cbsrun_fault_texts.specs.Pages.{left_in, right_in}
 use Rattle.cbsrun_fault_texts.proofs.Pages.{then, as_text, accepted}

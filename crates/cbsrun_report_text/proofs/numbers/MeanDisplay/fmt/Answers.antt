@@ -1,6 +1,6 @@
 use Rattle.std.proofs.Common.{◌∙◌, ◌++◌, codes, decimal, ap₂, arith, rules}
 use Rattle.std.proofs.Output.{has_written_of_eq}
-use Rattle.cbsrun_report_text.specs.Cells.{mean_text}
+use Rattle.cbsrun_report_text.specs.Numbers.{mean_text}
 use Rattle.cbsrun_report_text.proofs.Means.{mean_is}
 use Rattle.cbsrun_report_text.proofs.numbers.MeanDisplay.fmt.Goals as goal
 

@@ -1,6 +1,6 @@
 use Rattle.std.proofs.Common.{◌∙◌, ◌/◌, ◌%◌, ◌++◌, codes, decimal, ap, arith, rules}
 use Rattle.std.proofs.Output.{has_written_of_eq}
-use Rattle.cbsrun_report_text.specs.Cells.{percent_text}
+use Rattle.cbsrun_report_text.specs.Numbers.{percent_text}
 use Rattle.cbsrun_report_text.proofs.Means.{percent_is}
 use Rattle.cbsrun_report_text.proofs.numbers.PercentDisplay.fmt.Goals as goal
 
