@@ -96,7 +96,7 @@ fn row_at(
 }
 
 /// Returns the rows of the table.
-#[tactic(auto, unfolding(crate::specs::Servers::servers_table))]
+#[tactic(auto, unfolding(crate::specs::Tables::servers_table))]
 fn rows(
     alloc: Global,
     names: &[String],

@@ -25,7 +25,7 @@ enum AnyFile {
 
 /// Returns the file that the bytes spell, or its first fault. If it has to be read as one document that needs more than
 /// `memory` bytes of memory, returns out of memory.
-#[tactic(auto, unfolding(crate::specs::Checked::any_file))]
+#[tactic(auto, unfolding(crate::specs::Outputs::any_file))]
 fn read_any(alloc: Global, memory: u64, bytes: &[u8]) -> Result<AnyFile, FileFault>
     ensures { Gives no_memory (λ f. f) result (any_file bytes.now) }
 {

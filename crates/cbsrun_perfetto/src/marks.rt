@@ -41,7 +41,7 @@ fn named_end(
 }
 
 /// Returns the line of the end of a job that took `took` ticks and was late by `late` ticks.
-#[tactic(auto, unfolding(crate::specs::Servers::end_line))]
+#[tactic(auto, unfolding(crate::specs::Traces::end_line))]
 fn end_line(
     alloc: Global,
     thread: u64,
@@ -85,7 +85,7 @@ fn append_end(
 }
 
 /// Appends the ends of those jobs that were finished in the window.
-#[tactic(auto, unfolding(crate::specs::Servers::ends_of))]
+#[tactic(auto, unfolding(crate::specs::Traces::ends_of))]
 pub(crate) fn append_ends(
     alloc: Global,
     lines: &mut Vec<Line>,
@@ -102,7 +102,7 @@ pub(crate) fn append_ends(
 }
 
 /// Returns the line of a tick in which a release is refused.
-#[tactic(auto, unfolding(crate::specs::Servers::refused_line))]
+#[tactic(auto, unfolding(crate::specs::Traces::refused_line))]
 fn refused_line(alloc: Global, thread: u64, tick: u64) -> Result<Line, AllocError>
     ensures { IfOk result (λ line. line ≡ refused_line thread tick) }
 {
@@ -110,7 +110,7 @@ fn refused_line(alloc: Global, thread: u64, tick: u64) -> Result<Line, AllocErro
 }
 
 /// Appends a line for each tick of a stretch in which releases are refused.
-#[tactic(auto, unfolding(crate::specs::Servers::refusals_in))]
+#[tactic(auto, unfolding(crate::specs::Traces::refusals_in))]
 fn append_refusals_in(
     alloc: Global,
     lines: &mut Vec<Line>,
@@ -126,7 +126,7 @@ fn append_refusals_in(
 }
 
 /// Appends a line for each tick in which releases are refused.
-#[tactic(auto, unfolding(crate::specs::Servers::refusals_of))]
+#[tactic(auto, unfolding(crate::specs::Traces::refusals_of))]
 pub(crate) fn append_refusals(
     alloc: Global,
     lines: &mut Vec<Line>,
@@ -142,7 +142,7 @@ pub(crate) fn append_refusals(
 }
 
 /// Returns the line of the arrival of a job.
-#[tactic(auto, unfolding(crate::specs::Servers::arrival_line))]
+#[tactic(auto, unfolding(crate::specs::Traces::arrival_line))]
 fn arrival_line(alloc: Global, thread: u64, job: &ChartJob) -> Result<Line, AllocError>
     ensures { IfOk result (λ line. line ≡ arrival_line thread job.now) }
 {
@@ -169,7 +169,7 @@ fn append_arrival(
 }
 
 /// Appends the arrivals of those jobs that came in the window.
-#[tactic(auto, unfolding(crate::specs::Servers::arrivals_of))]
+#[tactic(auto, unfolding(crate::specs::Traces::arrivals_of))]
 pub(crate) fn append_arrivals(
     alloc: Global,
     lines: &mut Vec<Line>,
@@ -187,7 +187,7 @@ pub(crate) fn append_arrivals(
 }
 
 /// Returns the line of a deadline.
-#[tactic(auto, unfolding(crate::specs::Servers::deadline_line))]
+#[tactic(auto, unfolding(crate::specs::Traces::deadline_line))]
 fn deadline_line(alloc: Global, thread: u64, tick: u64) -> Result<Line, AllocError>
     ensures { IfOk result (λ line. line ≡ deadline_line thread tick) }
 {
@@ -195,7 +195,7 @@ fn deadline_line(alloc: Global, thread: u64, tick: u64) -> Result<Line, AllocErr
 }
 
 /// Appends a line for each deadline.
-#[tactic(auto, unfolding(crate::specs::Servers::deadlines_of))]
+#[tactic(auto, unfolding(crate::specs::Traces::deadlines_of))]
 pub(crate) fn append_deadlines(
     alloc: Global,
     lines: &mut Vec<Line>,
@@ -261,7 +261,7 @@ fn append_change(
 }
 
 /// Appends each change of a budget.
-#[tactic(auto, unfolding(crate::specs::Servers::changes_of))]
+#[tactic(auto, unfolding(crate::specs::Traces::changes_of))]
 fn append_changes(
     alloc: Global,
     lines: &mut Vec<Line>,
@@ -280,7 +280,7 @@ fn append_changes(
 }
 
 /// Appends the budget at the window's first tick, and each change after it.
-#[tactic(auto, unfolding(crate::specs::Servers::budgets_of))]
+#[tactic(auto, unfolding(crate::specs::Traces::budgets_of))]
 pub(crate) fn append_budgets(
     alloc: Global,
     lines: &mut Vec<Line>,

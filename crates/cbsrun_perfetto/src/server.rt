@@ -16,7 +16,7 @@ use cbsrun_text::mode_word;
 use std::alloc::{AllocError, Global};
 
 /// Appends all events of a server.
-#[tactic(auto, unfolding(crate::specs::Servers::events_of))]
+#[tactic(auto, unfolding(crate::specs::Traces::events_of))]
 pub(crate) fn append_events(
     alloc: Global,
     lines: &mut Vec<Line>,

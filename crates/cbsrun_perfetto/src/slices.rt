@@ -9,7 +9,7 @@ use cbsrun_chart::{ChartJob, Kind, ServerChart, Stretch, job_numbered};
 use std::alloc::{AllocError, Global};
 
 /// Returns the line of a bar of a job, with what is known of the job.
-#[tactic(auto, unfolding(crate::specs::Servers::bar_line))]
+#[tactic(auto, unfolding(crate::specs::Traces::bar_line))]
 fn bar_line(
     alloc: Global,
     thread: u64,
@@ -25,7 +25,7 @@ fn bar_line(
 }
 
 /// Returns the line of ticks that are no bar, by what goes on in them.
-#[tactic(auto, unfolding(crate::specs::Servers::other_line))]
+#[tactic(auto, unfolding(crate::specs::Traces::other_line))]
 fn other_line(alloc: Global, thread: u64, what: &str, span: &Stretch) -> Result<Line, AllocError>
     ensures { IfOk result (λ line. line ≡ other_line thread what.now span.now) }
 {
@@ -52,7 +52,7 @@ fn append_slice(
 }
 
 /// Appends the slices of a server.
-#[tactic(auto, unfolding(crate::specs::Servers::slices_of))]
+#[tactic(auto, unfolding(crate::specs::Traces::slices_of))]
 pub(crate) fn append_slices(
     alloc: Global,
     lines: &mut Vec<Line>,

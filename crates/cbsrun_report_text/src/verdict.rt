@@ -98,7 +98,7 @@ fn append_first(text: &mut String, servers: &[ServerReport]) -> Result<(), Alloc
 }
 
 /// Appends the verdict: that all jobs are in time, or the first server with a job that is late or was refused.
-#[tactic(auto, unfolding(crate::specs::Verdicts::verdict_text))]
+#[tactic(auto, unfolding(crate::specs::Notes::verdict_text))]
 pub(crate) fn append_verdict(text: &mut String, servers: &[ServerReport]) -> Result<(), AllocError>
     requires { length servers.now ≤ 64 }
     ensures { OnOk result (string_bytes text.new ≡ string_bytes text.old

@@ -60,7 +60,7 @@ fn multiple(first: u64, step: u64, place: u64) -> u64
 }
 
 /// Returns this many multiples of a step, from the first one on.
-#[tactic(auto, unfolding(crate::specs::Scales::multiples_from))]
+#[tactic(auto, unfolding(crate::specs::Heads::multiples_from))]
 fn multiples_from(alloc: Global, first: u64, step: u64, count: u64) -> Result<Vec<u64>, AllocError>
     ensures { IfOk result (λ ticks. ticks.items ≡ multiples_from first step count) }
 {
@@ -88,7 +88,7 @@ pub(crate) fn ticks_of(alloc: Global, axis: &Axis, window: Window) -> Result<Vec
 }
 
 /// Appends upright lines at ticks.
-#[tactic(auto, unfolding(crate::specs::Scales::uprights_text))]
+#[tactic(auto, unfolding(crate::specs::Heads::uprights_text))]
 pub(crate) fn append_uprights(
     shape: &mut String,
     axis: &Axis,
@@ -115,7 +115,7 @@ fn append_small_mark(shape: &mut String, axis: &Axis, y: u64, place: u64) -> Res
 }
 
 /// Appends a small mark at every tick, if the cells are wide enough.
-#[tactic(auto, unfolding(crate::specs::Scales::small_marks))]
+#[tactic(auto, unfolding(crate::specs::Heads::small_marks))]
 fn append_small_marks(shape: &mut String, axis: &Axis, y: u64) -> Result<(), AllocError>
     requires { y ≤ 1000000 }
     ensures { OnOk result (string_bytes shape.new ≡ string_bytes shape.old
@@ -131,7 +131,7 @@ fn append_small_marks(shape: &mut String, axis: &Axis, y: u64) -> Result<(), All
 }
 
 /// Appends the line of the scale, with its marks.
-#[tactic(auto, unfolding(crate::specs::Scales::axis_text))]
+#[tactic(auto, unfolding(crate::specs::Heads::axis_text))]
 fn append_axis(text: &mut String, axis: &Axis, y: u64, ticks: &[u64]) -> Result<(), AllocError>
     requires { y ≤ 1000000 }
     ensures { OnOk result (string_bytes text.new ≡ string_bytes text.old
@@ -146,7 +146,7 @@ fn append_axis(text: &mut String, axis: &Axis, y: u64, ticks: &[u64]) -> Result<
 }
 
 /// Appends the number of a tick.
-#[tactic(auto, unfolding(crate::specs::Scales::number_text))]
+#[tactic(auto, unfolding(crate::specs::Heads::number_text))]
 fn append_number(
     alloc: Global,
     text: &mut String,
@@ -162,7 +162,7 @@ fn append_number(
 }
 
 /// Appends the numbers of ticks.
-#[tactic(auto, unfolding(crate::specs::Scales::numbers_text))]
+#[tactic(auto, unfolding(crate::specs::Heads::numbers_text))]
 pub(crate) fn append_numbers(
     alloc: Global,
     text: &mut String,
@@ -180,7 +180,7 @@ pub(crate) fn append_numbers(
 }
 
 /// Appends the scale, whose line is at `y`.
-#[tactic(auto, unfolding(crate::specs::Scales::scale_text))]
+#[tactic(auto, unfolding(crate::specs::Heads::scale_text))]
 pub(crate) fn append_scale(
     alloc: Global,
     text: &mut String,

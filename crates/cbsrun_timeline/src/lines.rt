@@ -9,7 +9,7 @@ use cbsrun_chart::{Drawn, ServerChart};
 use std::alloc::{AllocError, Global};
 
 /// Appends a word, and blanks after it up to the width.
-#[tactic(auto, unfolding(crate::specs::Lines::padded))]
+#[tactic(auto, unfolding(crate::specs::Timelines::padded))]
 pub(crate) fn append_padded(text: &mut String, width: u64, word: &str) -> Result<(), AllocError>
     ensures { OnOk result (string_bytes text.new ≡ string_bytes text.old ++ padded width word.now) }
 {
@@ -38,7 +38,7 @@ pub(crate) fn append_line(text: &mut String, line: &str) -> Result<(), AllocErro
 }
 
 /// Appends the signs of what a server does in these columns.
-#[tactic(auto, unfolding(crate::specs::Lines::signs_text))]
+#[tactic(auto, unfolding(crate::specs::Timelines::signs_text))]
 fn append_signs(
     text: &mut String,
     grid: &Grid,
@@ -58,7 +58,7 @@ fn append_signs(
 }
 
 /// Returns the marks above these columns.
-#[tactic(auto, unfolding(crate::specs::Lines::marks_text))]
+#[tactic(auto, unfolding(crate::specs::Timelines::marks_text))]
 fn marks_text(
     alloc: Global,
     grid: &Grid,
@@ -78,7 +78,7 @@ fn marks_text(
 }
 
 /// Appends the marks as a line, if there are any.
-#[tactic(auto, unfolding(crate::specs::Lines::marks_line))]
+#[tactic(auto, unfolding(crate::specs::Timelines::marks_line))]
 fn append_marks(alloc: Global, text: &mut String, width: u64, marks: &str) -> Result<(), AllocError>
     ensures { OnOk result (string_bytes text.new ≡ string_bytes text.old
         ++ marks_line width marks.now) }
@@ -93,7 +93,7 @@ fn append_marks(alloc: Global, text: &mut String, width: u64, marks: &str) -> Re
 }
 
 /// Appends the lines of a server in a block.
-#[tactic(auto, unfolding(crate::specs::Lines::server_text))]
+#[tactic(auto, unfolding(crate::specs::Timelines::server_text))]
 pub(crate) fn append_server(
     alloc: Global,
     text: &mut String,

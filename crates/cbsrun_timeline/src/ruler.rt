@@ -27,7 +27,7 @@ fn append_number(
 }
 
 /// Appends the numbers of ticks.
-#[tactic(auto, unfolding(crate::specs::Lines::numbers_text))]
+#[tactic(auto, unfolding(crate::specs::Timelines::numbers_text))]
 fn append_numbers(
     alloc: Global,
     text: &mut String,
@@ -61,7 +61,7 @@ fn ruler_sign(place: u64) -> char
 }
 
 /// Appends the marks of this many columns, and the mark of their end.
-#[tactic(auto, unfolding(crate::specs::Lines::ruler_marks))]
+#[tactic(auto, unfolding(crate::specs::Timelines::ruler_marks))]
 fn append_ruler_marks(text: &mut String, count: u64) -> Result<(), AllocError>
     requires { count ≤ 60 }
     ensures { OnOk result (string_bytes text.new ≡ string_bytes text.old ++ ruler_marks count) }
@@ -73,7 +73,7 @@ fn append_ruler_marks(text: &mut String, count: u64) -> Result<(), AllocError>
 }
 
 /// Appends the ruler of a block.
-#[tactic(auto, unfolding(crate::specs::Lines::ruler_text))]
+#[tactic(auto, unfolding(crate::specs::Timelines::ruler_text))]
 pub(crate) fn append_ruler(
     alloc: Global,
     text: &mut String,
