@@ -1,6 +1,6 @@
 //! A plan: the reservations of all servers, within one bound.
 
-ghost use Rattle.std.specs.Prelude.{◌≡◌, ◌↔◌, [], ◌∷◌, ◌++◌, length, slice_get, IsTrue, OnOk, OnErr, MatchResult, Some, None, sum_by};
+ghost use Rattle.std.specs.Prelude.{◌≡◌, ◌↔◌, [], ◌∷◌, ◌++◌, length, slice_get, IsTrue, IfOk, OnOk, OnErr, MatchResult, Some, None, sum_by};
 ghost use Rattle.cbs_rate.specs.Plan.{IsPlan, IsLeastCommonMultiple, IsGreatestBudget, common_multiple, admit_refusal, share, with_rate, takes};
 ghost use Rattle.cbs_rate.specs.Sums.{AreSums};
 ghost use Rattle.cbs_rate.specs.Refusals.{AnswersBy};
@@ -172,10 +172,10 @@ impl Plan {
 
     /// Returns the sums with one more server, or why the plan does not admit it.
     fn sums_with(&self, reservation: Reservation) -> Result<Sums, AdmitError>
-        ensures answer { MatchResult result
-            (λ sums. (admit_refusal self.now reservation ≡ None)
-            × AreSums (with_rate self.now reservation) sums.common sums.taken)
+        ensures answer { MatchResult result (λ _. admit_refusal self.now reservation ≡ None)
             (λ error. admit_refusal self.now reservation ≡ Some error) }
+        ensures sums { IfOk result (λ sums. AreSums (with_rate self.now reservation) sums.common
+            sums.taken) }
         ensures least { IsLeastCommonMultiple (common_multiple
             (with_rate self.now reservation).rates) (with_rate self.now reservation).rates }
     {

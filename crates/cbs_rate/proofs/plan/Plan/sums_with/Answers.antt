@@ -55,4 +55,11 @@ returns-clause-answer c =
     let asked = asked_of c.args.reservation c.self.invariant c.period-period.ensures.lawful c.budget.ensures.value c.period-period.ensures.value
     c.least_common_multiple-common.ensures c.is_full.ensures.value c.if-is_full.false in
     let within = c.allows.ensures.value.0 c.if-not-allows.false in
-    rw (← c.self.view_is) (refusal_none asked (omega arith) within, summed_next asked (omega arith) within c.allows.ensures.lawful)
+    rw (← c.self.view_is) (refusal_none asked (omega arith) within)
+
+pub returns-clause-sums : goal.returns-clause-sums
+returns-clause-sums c =
+    let asked = asked_of c.args.reservation c.self.invariant c.period-period.ensures.lawful c.budget.ensures.value c.period-period.ensures.value
+    c.least_common_multiple-common.ensures c.is_full.ensures.value c.if-is_full.false in
+    let within = c.allows.ensures.value.0 c.if-not-allows.false in
+    rw (← c.self.view_is) (summed_next asked (omega arith) within c.allows.ensures.lawful)
