@@ -79,7 +79,7 @@ impl<W: Work, A: Allocator> House<W, A> {
     /// There is room for a message before it is popped, so no message is lost.
     ///
     /// Returns, in this order:
-    /// - [`Poll::NoSuchServer`];
+    /// - [`Poll::NoSuchServer`]: then the house is unchanged;
     /// - [`Poll::Nothing`] if the server is closed or no message is seen;
     /// - [`Poll::Full`] if the backlog of the server is full, whatever the next message is;
     /// - [`Poll::OutOfMemory`] if an allocation is refused.
