@@ -100,9 +100,11 @@ impl<A: Allocator> JobTally<A> {
     fn settle(&mut self) -> Result<(), AllocError>
         ensures { OnOk result (self.new ≡ jobs_settled self.old.newest self.old) }
     {
-        let Some(finish) = self.newest.take() else {
+        // Copied and then cleared, not taken: at most runs there is none, and nothing is moved.
+        let Some(finish) = self.newest else {
             return Ok(());
         };
+        self.newest = None;
         let response = finish.response();
         self.responses.push(response)?;
         self.response_total = self.response_total.saturating_add(u128::from(response));
