@@ -1,6 +1,6 @@
 -- One step more in the sums, and in the ticks that a server was throttled.
 use Rattle.std.proofs.Common.{◌≡◌, ℕ, ◌+◌, Bool, true, false, if◌then◌else◌, List, [], ◌∷◌, Option, Some, None, arith, refl, inl, inr}
-use Rattle.std.specs.Prelude.{◌&&◌, ltb}
+use Rattle.std.specs.Prelude.{◌-◌, ◌&&◌, ltb, min}
 use Rattle.std.proofs.lemmas.Bool.{cases_Bool}
 use Rattle.cbs_steps.specs.declared.view.ServerView.{ServerView}
 use Rattle.cbsrun_events.specs.Events.{begun, ticks_of_run}
@@ -8,7 +8,7 @@ use Rattle.cbsrun_events.specs.declared.seen.Event.{Event}
 use Rattle.cbsrun_events.specs.declared.seen.Event.TheVariants as event
 use Rattle.cbsrun_events.specs.declared.seen.Seen.{Seen}
 use Rattle.cbsrun_figures.specs.Figures.{told, told_sum, is_used_up, throttled, waited}
-use Rattle.cbsrun_figures.specs.Tallies.{sums_of, sums_after, throttled_ticks_of, throttled_ticks_with, wait_of, waited_since}
+use Rattle.cbsrun_figures.specs.Tallies.{sums_of, sums_after, throttled_ticks_of, throttled_ticks_with, ticks_until, wait_of}
 use Rattle.cbsrun_figures.specs.declared.sums.Sums.{Sums}
 
 -- a sum as a report gives it, with one number more
@@ -50,15 +50,19 @@ sums_step budget clock (event.NotCharged s n error) v own =
 pub sums_seen : (budget : ℕ) (o : Seen) (own : List Seen) → sums_after budget o.event o.view (sums_of budget own) ≡ sums_of budget (o ∷ own)
 sums_seen budget o own = sums_step budget o.clock o.event o.view own
 
--- how long a server with this view waits
-waits : (clock to : ℕ) (v : Option ServerView) → waited_since (wait_of clock v) to ≡ waited v clock to
-waits clock to None = refl
-waits clock to (Some v) = elim (cases_Bool (v.throttled && ltb v.finished v.accepted)) [ inl t ↦ rw t refl | inr f ↦ rw f refl ]
+-- some ticks, with those that a server with this view waits
+ticks_waited : (n clock to : ℕ) (v : Option ServerView) → ticks_until to (wait_of clock v) (told n) ≡ told (waited v clock to + n)
+ticks_waited n clock to None = omega arith
+ticks_waited n clock to (Some v) = elim (cases_Bool (v.throttled && ltb v.finished v.accepted)) [
+  | inl t ↦ rw t (told_more n (min v.deadline to - clock))
+  | inr f ↦ rw f (omega arith)
+]
 
 -- the ticks up to a tick in which a server was throttled with a job, from what is kept of them
-pub throttled_ticks_until : (own : List Seen) (to : ℕ) → told ((throttled_ticks_of own).ticks + waited_since (throttled_ticks_of own).wait to) ≡ told (throttled to own)
-throttled_ticks_until [] to = omega arith
-throttled_ticks_until (o ∷ own) to = rw (waits o.clock to o.view) (told_more (throttled (begun o) own) (waited o.view o.clock to))
+pub throttled_ticks_until : (own : List Seen) (to : ℕ)
+    → ticks_until to (throttled_ticks_of own).wait (throttled_ticks_of own).ticks ≡ told (throttled to own)
+throttled_ticks_until [] to = refl
+throttled_ticks_until (o ∷ own) to = ticks_waited (throttled (begun o) own) o.clock to o.view
 
 -- the same with one step more
 pub throttled_ticks_seen : (o : Seen) (own : List Seen) → throttled_ticks_with (begun o) o.clock o.view (throttled_ticks_of own) ≡ throttled_ticks_of (o ∷ own)

@@ -1,6 +1,6 @@
 -- What a report keeps of the steps of one server, and how one more step changes it. The steps stand with the newest
 -- first. For the code alone.
-use Rattle.std.specs.Prelude.{◌≡◌, ◌≢◌, ℕ, ◌+◌, ◌-◌, ◌<◌, ◌&&◌, ltb, max, min, if◌then◌else◌, List, [], ◌∷◌}
+use Rattle.std.specs.Prelude.{◌≡◌, ◌≢◌, ℕ, ◌+◌, ◌-◌, ◌<◌, Bool, false, ◌&&◌, ltb, max, min, if◌then◌else◌, List, [], ◌∷◌}
 use Rattle.std.specs.Prelude.{◌++◌, length, drop, get_or, map, Option, Some, None}
 use Rattle.cbs_steps.specs.declared.reply.Ran.{Ran}
 use Rattle.cbs_steps.specs.declared.reply.Ran.TheVariants as ran
@@ -47,15 +47,20 @@ sums_after budget (event.Ran r) v s = sums_with budget r v s
 sums_after budget (event.Charged server n) v s = record s { charged = told (s.charged + n); greatest_charge = max s.greatest_charge n }
 sums_after budget _ v s = s
 
--- the wait of a server that has this view at a tick: it is throttled and has a job
+-- a server that has this view waits: it is throttled and has a job
+abbrev pub waits : Option ServerView → Bool
+waits None = false
+waits (Some v) = v.throttled && ltb v.finished v.accepted
+
+-- the wait of a server that has this view at a tick
 abbrev pub wait_of : ℕ → Option ServerView → Option Wait
 wait_of clock None = None
-wait_of clock (Some v) = if v.throttled && ltb v.finished v.accepted then Some (record { since = clock; deadline = v.deadline }) else None
+wait_of clock (Some v) = if waits (Some v) then Some (record { since = clock; deadline = v.deadline }) else None
 
--- how many ticks of the wait there are up to a tick
-abbrev pub waited_since : Option Wait → ℕ → ℕ
-waited_since None to = 0
-waited_since (Some w) to = min w.deadline to - w.since
+-- some ticks, with those of the wait up to a tick
+abbrev pub ticks_until : ℕ → Option Wait → ℕ → ℕ
+ticks_until to None ticks = ticks
+ticks_until to (Some w) ticks = told (ticks + (min w.deadline to - w.since))
 
 -- the ticks up to its last step in which the server was throttled with a job, and the wait that goes on after that step
 abbrev pub throttled_ticks_of : List Seen → ThrottledTicks
@@ -64,7 +69,7 @@ throttled_ticks_of (o ∷ own) = record { ticks = told (throttled (begun o) own)
 
 -- the same after one more step, which began at one tick and left the clock at another
 abbrev pub throttled_ticks_with : ℕ → ℕ → Option ServerView → ThrottledTicks → ThrottledTicks
-throttled_ticks_with begun clock v h = record { ticks = told (h.ticks + waited_since h.wait begun); wait = wait_of clock v }
+throttled_ticks_with begun clock v h = record { ticks = ticks_until begun h.wait h.ticks; wait = wait_of clock v }
 
 -- the sums over numbers of ticks by which jobs were finished earlier than promised
 abbrev pub early_of : List ℕ → Early
@@ -78,6 +83,20 @@ early_with (Some promised) at e = record {
   total = told_sum (e.total + (promised - at));
   least = Some (lesser (promised - at) e.least);
 }
+
+-- The jobs of a server as its tally has them: the newest unit finished the first of them, if it is told when that one
+-- ended. The others wait
+abbrev pub HasEnded : Option ℕ → List AcceptedJob → Type 0
+HasEnded None jobs = Unit {0}
+HasEnded (Some at) jobs = 0 < length jobs
+
+abbrev pub waiting_in : Option ℕ → List AcceptedJob → List AcceptedJob
+waiting_in None jobs = jobs
+waiting_in (Some at) jobs = drop 1 jobs
+
+abbrev pub newest_in : Option ℕ → List AcceptedJob → Option Finish
+newest_in None jobs = None
+newest_in (Some at) jobs = oldest_finished at jobs
 
 -- the tally of the jobs: those that wait, the one that the newest unit finished, the response times of those finished
 -- before it, and sums

@@ -38,9 +38,9 @@ impl Early {
         let ticks = promised.saturating_sub(u128::from(at));
         self.count = self.count.saturating_add(1);
         self.total = self.total.saturating_add(ticks);
-        self.least = Some(match self.least {
-            Some(least) => ticks.min(least),
-            None => ticks,
-        });
+        match self.least {
+            Some(least) if least <= ticks => {}
+            _ => self.least = Some(ticks),
+        }
     }
 }

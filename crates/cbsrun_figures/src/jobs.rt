@@ -1,8 +1,8 @@
 //! The jobs of one server.
 
-ghost use Rattle.std.specs.Prelude.{◌≡◌, [], IfOk, OnOk};
+ghost use Rattle.std.specs.Prelude.{◌≡◌, [], None, IfOk, OnOk, length};
 ghost use Rattle.cbsrun_figures.specs.Figures.{exceeds, overdue, put_off, uses};
-ghost use Rattle.cbsrun_figures.specs.Tallies.{jobs_of, jobs_with, jobs_settled, jobs_after, jobs_after_run, settled_jobs, MakeFigures};
+ghost use Rattle.cbsrun_figures.specs.Tallies.{jobs_of, jobs_with, jobs_settled, jobs_without, jobs_after, jobs_after_run, settled_jobs, MakeFigures};
 
 use crate::early::Early;
 use crate::figures::Figures;
@@ -20,9 +20,10 @@ use std::marker::Model;
 #[derive(Drop)]
 pub struct JobTally<A: Allocator = Global> {
     // The oldest first.
-    waiting: VecDeque<AcceptedJob, A>,
-    // Not counted yet: a charge for the unit that finished it puts its end off.
-    newest: Option<Finish>,
+    jobs: VecDeque<AcceptedJob, A>,
+    // When the first of these ended, if the newest unit finished it. It is not counted yet: a charge for that unit puts
+    // its end off.
+    ended: Option<u64>,
     responses: Vec<u64, A>,
     response_total: u128,
     greatest_backlog: usize,
@@ -31,13 +32,15 @@ pub struct JobTally<A: Allocator = Global> {
 }
 
 impl<A: Allocator> Model for JobTally<A> {
-    ghost use Rattle.cbsrun_figures.specs.Tallies.{Jobs};
+    ghost use Rattle.cbsrun_figures.specs.Tallies.{Jobs, HasEnded, newest_in, waiting_in};
 
     ghost Value = { Jobs };
 
+    ghost invariant = { λ t. HasEnded t.ended t.jobs.items };
+
     ghost view = { λ t. record {
-      waiting = t.waiting.items;
-      newest = t.newest;
+      waiting = waiting_in t.ended t.jobs.items;
+      newest = newest_in t.ended t.jobs.items;
       responses = t.responses.items;
       response_total = t.response_total;
       greatest_backlog = t.greatest_backlog;
@@ -73,8 +76,8 @@ impl<A: Allocator + Clone> JobTally<A> {
     {
         let other = alloc.clone()?;
         Ok(JobTally {
-            waiting: VecDeque::new(other),
-            newest: None,
+            jobs: VecDeque::new(other),
+            ended: None,
             responses: Vec::new(alloc),
             response_total: 0,
             greatest_backlog: 0,
@@ -90,9 +93,17 @@ impl<A: Allocator> JobTally<A> {
     fn accept(&mut self, job: AcceptedJob) -> Result<(), AllocError>
         ensures { OnOk result (self.new ≡ jobs_with job self.old) }
     {
-        self.waiting.push_back(job)?;
-        self.greatest_backlog = self.greatest_backlog.max(self.waiting.len());
+        self.jobs.push_back(job)?;
+        self.greatest_backlog = self.greatest_backlog.max(self.waiting());
         Ok(())
+    }
+
+    /// Returns how many jobs wait.
+    #[inline(always)]
+    fn waiting(&self) -> usize
+        ensures { result ≡ length self.now.waiting }
+    {
+        self.jobs.len() - usize::from(self.ended.is_some())
     }
 
     /// Counts the newest finished job, if there is one: nothing can put its end off any more. Refuses if out of memory.
@@ -100,18 +111,18 @@ impl<A: Allocator> JobTally<A> {
     fn settle(&mut self) -> Result<(), AllocError>
         ensures { OnOk result (self.new ≡ jobs_settled self.old.newest self.old) }
     {
-        // Copied and then cleared, not taken: at most runs there is none, and nothing is moved.
-        let Some(finish) = self.newest else {
+        let Some(at) = self.ended else {
             return Ok(());
         };
-        self.newest = None;
-        let response = finish.response();
+        self.ended = None;
+        let job = self.jobs.pop_front().unwrap();
+        let response = Finish { job, at }.response();
         self.responses.push(response)?;
         self.response_total = self.response_total.saturating_add(u128::from(response));
-        self.late = self
-            .late
-            .saturating_add(u64::from(exceeds(response, finish.job.within)));
-        self.early.add(finish.job.promised, finish.at);
+        if exceeds(response, job.within) {
+            self.late = self.late.saturating_add(1);
+        }
+        self.early.add(job.promised, at);
         Ok(())
     }
 
@@ -123,9 +134,20 @@ impl<A: Allocator> JobTally<A> {
     {
         self.settle()?;
         if let Ran::Done(_) = ran {
-            self.newest = self.waiting.pop_front().map(|job| Finish { job, at: now });
+            self.end_first(now);
         }
         Ok(())
+    }
+
+    /// Ends the oldest job that waits, if there is one, at the tick `now`. Each job that ended before is counted.
+    #[inline(always)]
+    fn end_first(&mut self, now: u64)
+        requires { self.old.newest ≡ None }
+        ensures { self.new ≡ jobs_without now self.old }
+    {
+        if !self.jobs.is_empty() {
+            self.ended = Some(now);
+        }
     }
 
     /// Puts the end of the newest finished job off to the tick `now`, if there is such a job.
@@ -133,8 +155,8 @@ impl<A: Allocator> JobTally<A> {
     fn put_off(&mut self, now: u64)
         ensures { self.new ≡ record self.old { newest = put_off now self.old.newest } }
     {
-        if let Some(finish) = &mut self.newest {
-            finish.at = now;
+        if let Some(at) = &mut self.ended {
+            *at = now;
         }
     }
 
@@ -162,10 +184,11 @@ impl<A: Allocator> JobTally<A> {
     fn overdue(&self, now: u64) -> u64
         ensures { result ≡ overdue now self.now.waiting }
     {
-        let late = self
-            .waiting
-            .iter()
-            .filter(|job| uses(job.age(now), job.within));
+        let mut waiting = self.jobs.iter();
+        if self.ended.is_some() {
+            waiting.next();
+        }
+        let late = waiting.filter(|job| uses(job.age(now), job.within));
         late.count() as u64
     }
 
@@ -176,7 +199,7 @@ impl<A: Allocator> JobTally<A> {
         Figures {
             refused: sums.refused,
             finished: self.responses.len() as u64,
-            unfinished: self.waiting.len() as u64,
+            unfinished: self.waiting() as u64,
             late_finished: self.late,
             late_unfinished: self.overdue(now),
             greatest_backlog: self.greatest_backlog as u64,

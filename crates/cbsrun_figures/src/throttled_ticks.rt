@@ -1,8 +1,7 @@
 //! The ticks in which a server is throttled and has a job.
 
-ghost use Rattle.std.specs.Prelude.{◌≡◌, ◌+◌, []};
-ghost use Rattle.cbsrun_figures.specs.Figures.{told};
-ghost use Rattle.cbsrun_figures.specs.Tallies.{throttled_ticks_of, throttled_ticks_with, wait_of, waited_since};
+ghost use Rattle.std.specs.Prelude.{◌≡◌, []};
+ghost use Rattle.cbsrun_figures.specs.Tallies.{throttled_ticks_of, throttled_ticks_with, ticks_until, wait_of, waits};
 
 use cbs_steps::ServerView;
 
@@ -24,18 +23,25 @@ pub struct ThrottledTicks {
     pub wait: Option<Wait>,
 }
 
+/// Returns whether a server that shows this view waits: it is throttled and has a job.
+fn waits(view: Option<ServerView>) -> bool
+    ensures { result ≡ waits view }
+{
+    match view {
+        Some(view) => view.throttled && view.finished < view.accepted,
+        None => false,
+    }
+}
+
 /// Returns the wait of a server that shows this view at a tick, or `None` if the server does not wait.
 fn wait_of(clock: u64, view: Option<ServerView>) -> Option<Wait>
     ensures { result ≡ wait_of clock view }
 {
-    let view = view?;
-    if view.throttled && view.finished < view.accepted {
-        return Some(Wait {
-            since: clock,
-            deadline: view.deadline,
-        });
-    }
-    None
+    let deadline = view?.deadline;
+    waits(view).then_some(Wait {
+        since: clock,
+        deadline,
+    })
 }
 
 impl ThrottledTicks {
@@ -51,7 +57,7 @@ impl ThrottledTicks {
 
     /// Returns the ticks up to the tick `now`.
     pub fn until(&self, now: u64) -> u64
-        ensures { result ≡ told (self.now.ticks + waited_since self.now.wait now) }
+        ensures { result ≡ ticks_until now self.now.wait self.now.ticks }
     {
         let Some(wait) = self.wait else {
             return self.ticks;
@@ -66,11 +72,10 @@ impl ThrottledTicks {
     pub fn add(&mut self, begun: u64, clock: u64, view: Option<ServerView>)
         ensures { self.new ≡ throttled_ticks_with begun clock view self.old }
     {
-        self.ticks = self.until(begun);
-        let wait = wait_of(clock, view);
         // At most steps the server waits neither before nor after: nothing changes then.
-        if self.wait.is_some() || wait.is_some() {
-            self.wait = wait;
+        if self.wait.is_some() || waits(view) {
+            self.ticks = self.until(begun);
+            self.wait = wait_of(clock, view);
         }
     }
 }

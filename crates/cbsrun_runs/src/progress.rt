@@ -5,9 +5,6 @@ ghost use Rattle.std.specs.Prelude.{◌≡◌};
 use cbsrun_events::{Seen, View};
 use std::alloc::AllocError;
 
-/// The number of steps from one report to the next. This many steps take some milliseconds.
-const STEPS: u32 = 65_536;
-
 /// A receiver of reports on how far a simulation is, which come now and then.
 pub trait Progress {
     /// Receives the clock, and the tick at which the simulation ends.
@@ -32,7 +29,8 @@ impl Progress for NoProgress {
 pub(crate) struct Telling<V> {
     pub(crate) view: V,
     until: Option<u64>,
-    left: u32,
+    // How many steps were seen since the last report. After 65,536, which take some milliseconds, it is 0 again.
+    steps: u16,
 }
 
 impl<V> Telling<V> {
@@ -43,7 +41,7 @@ impl<V> Telling<V> {
         Telling {
             view,
             until,
-            left: STEPS,
+            steps: 0,
         }
     }
 }
@@ -57,13 +55,12 @@ impl<P: Progress, V: View<()>> View<P> for Telling<V> {
 
     #[inline(always)]
     fn see(&mut self, lent: &mut P, seen: Seen) -> Result<(), AllocError> {
-        if self.left == 0 {
-            self.left = STEPS;
-            if let Some(until) = self.until {
-                lent.tell(seen.clock, until);
-            }
+        self.steps = self.steps.wrapping_add(1);
+        if self.steps == 0
+            && let Some(until) = self.until
+        {
+            lent.tell(seen.clock, until);
         }
-        self.left -= 1;
         self.view.see(&mut (), seen)
     }
 }
