@@ -15,7 +15,7 @@ use Rattle.cbsrun_figures.specs.Figures.{is_server, steps_of, told, total}
 use Rattle.cbsrun_figures.proofs.JobSteps.{jobs_seen}
 use Rattle.cbsrun_figures.proofs.SumSteps.{sums_seen, throttled_ticks_seen}
 use Rattle.cbsrun_figures.specs.Tallies.{sums_of, sums_after, throttled_ticks_of, throttled_ticks_with, jobs_of, jobs_after, passed}
-use Rattle.cbsrun_figures.specs.Tallies.{Kept, kept_at, kept_of, no_kept, AreKept, AddsStep, HasSeen, Reported, ticks_idle}
+use Rattle.cbsrun_figures.specs.Tallies.{Kept, kept_at, kept_of, AreKept, AddsStep, HasSeen, Reported, ticks_idle}
 
 -- all that is kept of one server, with one step more
 pub kept_step : (k n : Kept) (budget : ℕ) (o : Seen) (own : List Seen) → k ≡ kept_of budget own → n.budget ≡ k.budget
@@ -130,9 +130,9 @@ adds_at old k o x y lt is step same =
     let budget = ap (λ t. t.budget) is in
     record {
       here = λ within own was.
-          get_or-set_same old k y no_kept lt ∙ (step own (is ∙ (was ∙ ap (λ b. kept_of b own) (sym budget))) ∙ ap (λ b. kept_of b (o ∷ own)) budget);
-      others = λ t ne. get_or-set_other old k t y no_kept ne;
-      budgets = map-set_same (λ t. t.budget) old k y no_kept (same ∙ budget);
+          get_or-set_same old k y (kept_of 0 []) lt ∙ (step own (is ∙ (was ∙ ap (λ b. kept_of b own) (sym budget))) ∙ ap (λ b. kept_of b (o ∷ own)) budget);
+      others = λ t ne. get_or-set_other old k t y (kept_of 0 []) ne;
+      budgets = map-set_same (λ t. t.budget) old k y (kept_of 0 []) (same ∙ budget);
     }
 
 -- two facts of one result, together

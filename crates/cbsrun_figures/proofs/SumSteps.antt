@@ -2,13 +2,15 @@
 use Rattle.std.proofs.Common.{◌≡◌, ℕ, ◌+◌, Bool, true, false, if◌then◌else◌, List, [], ◌∷◌, Option, Some, None, arith, refl, inl, inr}
 use Rattle.std.specs.Prelude.{◌-◌, ◌&&◌, ltb, min}
 use Rattle.std.proofs.lemmas.Bool.{cases_Bool}
+use Rattle.cbs_steps.specs.declared.reply.Ran.{Ran}
+use Rattle.cbs_steps.specs.declared.reply.Ran.TheVariants as ran
 use Rattle.cbs_steps.specs.declared.view.ServerView.{ServerView}
-use Rattle.cbsrun_events.specs.Events.{begun, ticks_of_run}
+use Rattle.cbsrun_events.specs.Events.{begun}
 use Rattle.cbsrun_events.specs.declared.seen.Event.{Event}
 use Rattle.cbsrun_events.specs.declared.seen.Event.TheVariants as event
 use Rattle.cbsrun_events.specs.declared.seen.Seen.{Seen}
 use Rattle.cbsrun_figures.specs.Figures.{told, told_sum, is_used_up, throttled, waited}
-use Rattle.cbsrun_figures.specs.Tallies.{sums_of, sums_after, throttled_ticks_of, throttled_ticks_with, ticks_until, wait_of}
+use Rattle.cbsrun_figures.specs.Tallies.{sums_of, sums_after, sums_with, throttled_ticks_of, throttled_ticks_with, ticks_until, wait_of}
 use Rattle.cbsrun_figures.specs.declared.sums.Sums.{Sums}
 
 -- a sum as a report gives it, with one number more
@@ -28,6 +30,22 @@ used_up_more : (b : Bool) (n m : ℕ) → (if b then told (told n + m) else told
 used_up_more true n m = omega arith
 used_up_more false n m = omega arith
 
+none_used_up : (b : Bool) (n : ℕ) → told n ≡ told ((if b then 0 else 0) + n)
+none_used_up true n = omega arith
+none_used_up false n = omega arith
+
+-- a run more
+run_step : (budget clock : ℕ) (r : Ran) (v : Option ServerView) (own : List Seen)
+    → sums_with budget r v (sums_of budget own) ≡ sums_of budget (record { clock = clock; event = event.Ran r; view = v } ∷ own)
+run_step budget clock ran.Idle v own =
+    same_sums _ _ (omega arith) (omega arith) (omega arith) (none_used_up (is_used_up budget v) _) (omega arith) (omega arith)
+run_step budget clock ran.ClockEnd v own =
+    same_sums _ _ (omega arith) (omega arith) (omega arith) (none_used_up (is_used_up budget v) _) (omega arith) (omega arith)
+run_step budget clock (ran.Unit s q) v own =
+    same_sums _ _ (omega arith) (omega arith) (omega arith) (used_up_more (is_used_up budget v) _ 1) (omega arith) (omega arith)
+run_step budget clock (ran.Done c) v own =
+    same_sums _ _ (omega arith) (omega arith) (omega arith) (used_up_more (is_used_up budget v) _ 1) (omega arith) (omega arith)
+
 -- the sums with one step more
 sums_step : (budget clock : ℕ) (e : Event) (v : Option ServerView) (own : List Seen)
     → sums_after budget e v (sums_of budget own) ≡ sums_of budget (record { clock = clock; event = e; view = v } ∷ own)
@@ -35,8 +53,7 @@ sums_step budget clock (event.Accepted job number promised) v own =
     same_sums _ _ (omega arith) (omega arith) (omega arith) (omega arith) (omega arith) (omega arith)
 sums_step budget clock (event.NotAccepted job error) v own =
     same_sums _ _ (omega arith) (omega arith) (omega arith) (omega arith) (omega arith) (omega arith)
-sums_step budget clock (event.Ran r) v own =
-    same_sums _ _ (omega arith) (omega arith) (omega arith) (used_up_more (is_used_up budget v) _ (ticks_of_run r)) (omega arith) (omega arith)
+sums_step budget clock (event.Ran r) v own = run_step budget clock r v own
 sums_step budget clock (event.Advanced n) v own = same_sums _ _ (omega arith) (omega arith) (omega arith) (omega arith) (omega arith) (omega arith)
 sums_step budget clock (event.NotAdvanced n error) v own =
     same_sums _ _ (omega arith) (omega arith) (omega arith) (omega arith) (omega arith) (omega arith)

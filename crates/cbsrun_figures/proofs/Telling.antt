@@ -3,9 +3,19 @@ use Rattle.std.proofs.Common.{◌≡◌, ℕ, zero, suc, ◌<◌, List, [], ◌�
 use Rattle.std.specs.Prelude.{get_or, slice_get}
 use Rattle.std.proofs.lemmas.List.{get_or-map, length-map}
 use Rattle.cbsrun_events.specs.declared.seen.Seen.{Seen}
-use Rattle.cbsrun_figures.specs.Figures.{steps_of, AreAllFigures}
-use Rattle.cbsrun_figures.specs.Tallies.{Kept, kept_at, no_kept, HasSeen, Reported, budgets, Tells, TellAll}
+use Rattle.cbsrun_figures.specs.Figures.{steps_of, AreFigures, AreAllFigures}
+use Rattle.cbsrun_figures.specs.Tallies.{Kept, kept_at, kept_of, HasSeen, Reported, budgets}
 use Rattle.cbsrun_figures.specs.declared.figures.Figures.{Figures}
+
+-- these are the figures of the tally up to the tick `now`, for all steps that the tally may be of
+abbrev Tells : ℕ → Kept → Figures → Type 0
+Tells now k f = (own : List Seen) → k ≡ kept_of k.budget own → AreFigures k.budget now own f
+
+-- the same for each tally and its figures
+abbrev pub TellAll : ℕ → List Kept → List Figures → Type 0
+TellAll now [] [] = Unit {0}
+TellAll now (k ∷ ks) (f ∷ fs) = Tells now k f × TellAll now ks fs
+TellAll now _ _ = ⊥
 
 -- one tally more, and its figures
 pub tell_more : (now : ℕ) (ks : List Kept) (fs : List Figures) (k : Kept) (f : Figures) → TellAll now ks fs → Tells now k f
@@ -39,6 +49,6 @@ all_figures first now seen until fs all was = record {
   each = λ s f e.
       let h = tell_at until now.kept fs s f all e in
       let same : get_or (budgets first) s 0 ≡ (kept_at now.kept s).budget =
-      ap (λ bs. get_or bs s 0) (sym was.budgets) ∙ get_or-map (λ (k : Kept). k.budget) now.kept s no_kept 0 h.0 in
+      ap (λ bs. get_or bs s 0) (sym was.budgets) ∙ get_or-map (λ (k : Kept). k.budget) now.kept s (kept_of 0 []) 0 h.0 in
       rw same (h.1 (steps_of s seen) (was.kept s h.0));
 }

@@ -34,10 +34,10 @@ sums_of budget own = record {
 
 -- the sums after one more run, after which the server has this view
 abbrev pub sums_with : ℕ → Ran → Option ServerView → Sums → Sums
-sums_with budget r v s = record s {
-  run = told (s.run + ticks_of_run r);
-  used_up = if is_used_up budget v then told (s.used_up + ticks_of_run r) else s.used_up;
-}
+sums_with budget ran.Idle v s = s
+sums_with budget ran.ClockEnd v s = s
+sums_with budget _ v s =
+    record s { run = told (s.run + 1); used_up = if is_used_up budget v then told (s.used_up + 1) else s.used_up }
 
 -- the sums after one more step
 abbrev pub sums_after : ℕ → Event → Option ServerView → Sums → Sums
@@ -84,12 +84,7 @@ early_with (Some promised) at e = record {
   least = Some (lesser (promised - at) e.least);
 }
 
--- The jobs of a server as its tally has them: the newest unit finished the first of them, if it is told when that one
--- ended. The others wait
-abbrev pub HasEnded : Option ℕ → List AcceptedJob → Type 0
-HasEnded None jobs = Unit {0}
-HasEnded (Some at) jobs = 0 < length jobs
-
+-- of the jobs of a server, if it is told when the first of them ended: those that wait, and the one that ended
 abbrev pub waiting_in : Option ℕ → List AcceptedJob → List AcceptedJob
 waiting_in None jobs = jobs
 waiting_in (Some at) jobs = drop 1 jobs
@@ -176,13 +171,9 @@ pub record Kept : Type 0 where
 abbrev pub kept_of : ℕ → List Seen → Kept
 kept_of budget own = record { budget = budget; sums = sums_of budget own; throttled_ticks = throttled_ticks_of own; jobs = jobs_of own }
 
--- the tally that stands for a server that does not exist
-abbrev pub no_kept : Kept
-no_kept = kept_of 0 []
-
 -- the tally of server s
 abbrev pub kept_at : List Kept → ℕ → Kept
-kept_at kept s = get_or kept s no_kept
+kept_at kept s = get_or kept s (kept_of 0 [])
 
 -- the ticks that a step lets pass, in which nobody runs
 abbrev pub ticks_idle : Event → ℕ
@@ -219,13 +210,3 @@ pub record AddsStep (s : ℕ) (o : Seen) (old new : List Kept) : Type 0 where
       → kept_at new s ≡ kept_of (kept_at old s).budget (o ∷ own)
   pub others : (t : ℕ) → t ≢ s → kept_at new t ≡ kept_at old t
   pub budgets : map (λ k. k.budget) new ≡ map (λ k. k.budget) old
-
--- these are the figures of the tally up to the tick `now`, for all steps that the tally may be of
-abbrev pub Tells : ℕ → Kept → Figures → Type 0
-Tells now k f = (own : List Seen) → k ≡ kept_of k.budget own → AreFigures k.budget now own f
-
--- the same for each tally and its figures
-abbrev pub TellAll : ℕ → List Kept → List Figures → Type 0
-TellAll now [] [] = Unit {0}
-TellAll now (k ∷ ks) (f ∷ fs) = Tells now k f × TellAll now ks fs
-TellAll now _ _ = ⊥

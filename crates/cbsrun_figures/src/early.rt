@@ -3,6 +3,8 @@
 ghost use Rattle.std.specs.Prelude.{◌≡◌, []};
 ghost use Rattle.cbsrun_figures.specs.Tallies.{early_of, early_with};
 
+use crate::sums::count;
+
 /// Sums over finished jobs: how many ticks earlier than promised they were finished.
 #[derive(Clone, Copy)]
 pub struct Early {
@@ -36,7 +38,7 @@ impl Early {
             return;
         };
         let ticks = promised.saturating_sub(u128::from(at));
-        self.count = self.count.saturating_add(1);
+        count(&mut self.count);
         self.total = self.total.saturating_add(ticks);
         match self.least {
             Some(least) if least <= ticks => {}

@@ -8,7 +8,7 @@ use crate::early::Early;
 use crate::figures::Figures;
 use crate::job::{AcceptedJob, Finish};
 use crate::ranks::ranks_of;
-use crate::sums::Sums;
+use crate::sums::{Sums, count};
 use cbs_steps::Ran;
 use cbsrun_events::Event;
 use std::alloc::{AllocError, Allocator, Global};
@@ -32,11 +32,12 @@ pub struct JobTally<A: Allocator = Global> {
 }
 
 impl<A: Allocator> Model for JobTally<A> {
-    ghost use Rattle.cbsrun_figures.specs.Tallies.{Jobs, HasEnded, newest_in, waiting_in};
+    ghost use Rattle.std.specs.Prelude.{◌<◌, IfSome, length};
+    ghost use Rattle.cbsrun_figures.specs.Tallies.{Jobs, newest_in, waiting_in};
 
     ghost Value = { Jobs };
 
-    ghost invariant = { λ t. HasEnded t.ended t.jobs.items };
+    ghost invariant = { λ t. IfSome t.ended (λ _. 0 < length t.jobs.items) };
 
     ghost view = { λ t. record {
       waiting = waiting_in t.ended t.jobs.items;
@@ -120,7 +121,7 @@ impl<A: Allocator> JobTally<A> {
         self.responses.push(response)?;
         self.response_total = self.response_total.saturating_add(u128::from(response));
         if exceeds(response, job.within) {
-            self.late = self.late.saturating_add(1);
+            count(&mut self.late);
         }
         self.early.add(job.promised, at);
         Ok(())

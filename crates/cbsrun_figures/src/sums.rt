@@ -1,11 +1,11 @@
 //! Sums over the steps of one server.
 
-ghost use Rattle.std.specs.Prelude.{◌≡◌, [], ◌≤◌, ◌^◌};
-ghost use Rattle.cbsrun_figures.specs.Figures.{is_used_up};
+ghost use Rattle.std.specs.Prelude.{◌≡◌, ◌+◌, []};
+ghost use Rattle.cbsrun_figures.specs.Figures.{is_used_up, told};
 ghost use Rattle.cbsrun_figures.specs.Tallies.{sums_of, sums_with, sums_after};
 
 use cbs_steps::{Ran, ServerView};
-use cbsrun_events::{Event, ticks_of_run};
+use cbsrun_events::Event;
 
 /// Sums over the steps of one server.
 #[derive(Clone, Copy)]
@@ -22,6 +22,17 @@ pub struct Sums {
     pub charged: u64,
     /// The greatest charge, in ticks.
     pub greatest_charge: u64,
+}
+
+/// Adds one to a count, which stays at most 2^64 - 1.
+#[inline(always)]
+pub(crate) fn count(count: &mut u64)
+    ensures { count.new ≡ told (count.old + 1) }
+{
+    // A test costs less than a sum that saturates.
+    if *count < u64::MAX {
+        *count += 1;
+    }
 }
 
 /// Returns whether a server that shows this view after a unit has used up its budget.
@@ -54,10 +65,14 @@ impl Sums {
     fn add_run(&mut self, budget: u64, ran: Ran, view: Option<ServerView>)
         ensures { self.new ≡ sums_with budget ran view self.old }
     {
-        let units = ticks_of_run(ran);
-        self.run = self.run.saturating_add(units);
-        if is_used_up(budget, view) {
-            self.used_up = self.used_up.saturating_add(units);
+        match ran {
+            Ran::Unit { .. } | Ran::Done(_) => {
+                count(&mut self.run);
+                if is_used_up(budget, view) {
+                    count(&mut self.used_up);
+                }
+            }
+            Ran::Idle | Ran::ClockEnd => {}
         }
     }
 
@@ -71,7 +86,7 @@ impl Sums {
                 self.asked = self.asked.saturating_add(u64::from(job.units));
             }
             Event::NotAccepted { job, .. } => {
-                self.refused = self.refused.saturating_add(1);
+                count(&mut self.refused);
                 self.asked = self.asked.saturating_add(u64::from(job.units));
             }
             Event::Ran(ran) => self.add_run(budget, ran, view),

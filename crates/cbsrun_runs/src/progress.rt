@@ -55,12 +55,14 @@ impl<P: Progress, V: View<()>> View<P> for Telling<V> {
 
     #[inline(always)]
     fn see(&mut self, lent: &mut P, seen: Seen) -> Result<(), AllocError> {
+        // First, so that the view's code stays apart for each kind of step.
+        self.view.see(&mut (), seen)?;
         self.steps = self.steps.wrapping_add(1);
         if self.steps == 0
             && let Some(until) = self.until
         {
             lent.tell(seen.clock, until);
         }
-        self.view.see(&mut (), seen)
+        Ok(())
     }
 }

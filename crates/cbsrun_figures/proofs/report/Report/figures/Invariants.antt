@@ -1,6 +1,6 @@
 use Rattle.std.proofs.Common.{◌≡◌, ◌++◌, length}
 use Rattle.std.specs.Vec.Iter.{into_iter_items, into_iter_len}
-use Rattle.cbsrun_figures.specs.Tallies.{TellAll}
+use Rattle.cbsrun_figures.proofs.Telling.{TellAll}
 use Rattle.cbsrun_figures.proofs.report.Report.figures.Given as goal
 
 -- the figures of the first servers
