@@ -163,8 +163,8 @@ module _ {W A : Type 0} {g : Ghosts W} where
       → Paces g.meaning took p old answer new q → ticks_counted p.pace (core_of old).clock * p.pace.tick + took ≤ p.pace.watch.over + p.pace.tick
       → IsNotAhead q.pace (core_of new).clock
   paces_ahead took p q old new answer lawful h start =
-      answers_ahead h.out_of_memory q.pace p.listens q.listens h.count h.between new answer q.doing h.answers
-      (prepares_ahead took p.doing p.pace q.pace old h.between h.count h.out_of_memory lawful h.prepares start)
+      answers_ahead h.out_of_memory q.pace p.listens q.listens q.taken h.between new answer q.doing h.answers
+      (prepares_ahead took p.doing p.pace q.pace old h.between q.taken h.out_of_memory lawful h.prepares start)
 
   does_awake : (q : Pacing) (heard hears : Bool) (count : ℕ) (old new : House W A g) (answer : Next) (later : Option ℕ) → Does g.meaning q heard count old answer new later hears → IsDue q (core_of old).clock
       → ¬ AsksToSleep answer
@@ -185,9 +185,9 @@ module _ {W A : Type 0} {g : Ghosts W} where
   pub paces_awake : (took : ℕ) (p q : Paced) (old new : House W A g) (answer : Next) → IsPacing p.pace → p.doing ≡ None
       → Paces g.meaning took p old answer new q → IsDue p.pace (core_of old).clock → ¬ AsksToSleep answer
   paces_awake took p q old new answer lawful none h due =
-      answers_awake h.out_of_memory q.pace p.listens q.listens h.count h.between new answer q.doing h.answers
-      (prepares_due took p.pace q.pace old h.between h.count h.out_of_memory lawful
-      (subst (λ (o : Option ℕ). Prepares g.meaning took o p.pace old h.between q.pace h.count h.out_of_memory) none h.prepares) due)
+      answers_awake h.out_of_memory q.pace p.listens q.listens q.taken h.between new answer q.doing h.answers
+      (prepares_due took p.pace q.pace old h.between q.taken h.out_of_memory lawful
+      (subst (λ (o : Option ℕ). Prepares g.meaning took o p.pace old h.between q.pace q.taken h.out_of_memory) none h.prepares) due)
 
 -- a pace stays lawful at one more reading
 pub seen_lawful : (reading : ℕ) (p : Pacing) → IsPacing p → IsPacing (pacing_seen reading p)

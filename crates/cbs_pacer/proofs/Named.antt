@@ -29,4 +29,4 @@ module _ {W A : Type 0} {g : Ghosts W} (work : Meaning W) where
   pub paces_names : (took : ℕ) (p q : Paced) (old new : House W A g) (answer : Next) → Paces work took p old answer new q
       → NamesJob work (ran_next answer) new
   paces_names took p q old new answer h =
-      answers_names h.out_of_memory q.pace p.listens q.listens h.count h.between new answer q.doing h.answers
+      answers_names h.out_of_memory q.pace p.listens q.listens q.taken h.between new answer q.doing h.answers

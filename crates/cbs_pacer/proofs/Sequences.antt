@@ -280,8 +280,8 @@ pub paces_timed : {W A : Type 0} {g : Ghosts W} (took : ℕ) (p q : Paced) (old 
     → ((s : ℕ) → p.doing ≡ Some s → s < 64) → Paces g.meaning took p old answer new q
     → GoesOnInTime g.meaning took p (core_of old) (core_of new) q
 paces_timed took p q old new answer lawful few h setup N holds t =
-    let a = prepares_timed setup took p.doing p.pace q.pace old h.between h.count h.out_of_memory N lawful few h.prepares holds t in
-    (a.0, answers_timed setup h.out_of_memory q.pace p.listens q.listens h.count h.between new answer q.doing (a.0 ++ N) h.answers a.1, a.2)
+    let a = prepares_timed setup took p.doing p.pace q.pace old h.between q.taken h.out_of_memory N lawful few h.prepares holds t in
+    (a.0, answers_timed setup h.out_of_memory q.pace p.listens q.listens q.taken h.between new answer q.doing (a.0 ++ N) h.answers a.1, a.2)
 
 -- the server whose unit is being done is one of 64
 few_doing : (does : Bool) (server s : ℕ) → server < 64 → (if does then Some server else None) ≡ Some s → s < 64

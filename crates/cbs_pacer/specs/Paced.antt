@@ -23,18 +23,20 @@ use Rattle.cbs_pacer.specs.declared.pacer.Pacer.{Pacer}
 use Rattle.cbs_pacer.specs.declared.next.Next.{Next}
 use Rattle.cbs_pacer.specs.declared.next.Next.TheVariants as next
 
--- what a pacer keeps: the pace, the server whose unit is being done, if one is, and whether the host listens for its bell
+-- What a pacer keeps: the pace, the server whose unit is being done, if one is, whether the host listens for its bell, and
+-- how many messages the last polls took
 pub record Paced : Type 0 where
   pub pace : Pacing
   pub doing : Option ℕ
   pub listens : Bool
+  pub taken : ℕ
 
 -- the server whose unit is being done, if one is
 abbrev pub doing_of : Pacer → Option ℕ
 doing_of p = if p.does then Some p.server else None
 
 abbrev pub paced_of : Pacer → Paced
-paced_of p = record { pace = p.pace; doing = doing_of p; listens = p.listens }
+paced_of p = record { pace = p.pace; doing = doing_of p; listens = p.listens; taken = p.taken }
 
 -- the same at one more reading
 abbrev pub paced_seen : ℕ → Pacer → Paced
@@ -167,7 +169,6 @@ module _ {W A : Type 0} {g : Ghosts W} where
   -- polled, and the host was told what it does next
   pub record Paces (work : Meaning W) (took : ℕ) (p : Paced) (old : House W A g) (answer : Next) (new : House W A g) (q : Paced) : Type 0 where
     pub between : House W A g
-    pub count : ℕ
     pub out_of_memory : Bool
-    pub prepares : Prepares work took p.doing p.pace old between q.pace count out_of_memory
-    pub answers : Answers out_of_memory work q.pace p.listens count between answer new q.doing q.listens
+    pub prepares : Prepares work took p.doing p.pace old between q.pace q.taken out_of_memory
+    pub answers : Answers out_of_memory work q.pace p.listens q.taken between answer new q.doing q.listens

@@ -1,6 +1,6 @@
 //! What the host of a house does next, by the readings of its clock.
 
-ghost use Rattle.std.specs.Prelude.{◌≡◌, ◌<◌, ◌≤◌, ◌+◌, min, None, Some, Bool, ℕ, false, true};
+ghost use Rattle.std.specs.Prelude.{◌≡◌, ◌<◌, ◌≤◌, ◌+◌, min, None, Some, Bool, false, true};
 ghost use Rattle.cbs_pace.specs.Paces.{pacing_begun, pacing_seen, time_to, IsDue, IsNotAhead};
 ghost use Rattle.cbs_clients.specs.Houses.{core_of, Made};
 ghost use Rattle.cbs_clients.specs.Meters.{charge_steps};
@@ -14,7 +14,7 @@ ghost use Rattle.cbs_pacer.specs.Timed.{GoesOnInTime};
 
 use crate::next::Next;
 use crate::pacer::Pacer;
-use cbs_clients::{House, OpenGate, Polls, poll_each};
+use cbs_clients::{House, OpenGate, poll_each};
 use cbs_core::{LIMIT, Ran};
 use cbs_job::Work;
 use cbs_pace::{Counts, Pace, Rounding, Tick};
@@ -27,6 +27,7 @@ impl Pacer {
           pace = pacing_begun tick rounding now reading;
           doing = None;
           listens = false;
+          taken = 0;
         } }
     {
         Pacer {
@@ -34,6 +35,7 @@ impl Pacer {
             server: 0,
             does: false,
             listens: false,
+            taken: 0,
         }
     }
 
@@ -42,6 +44,14 @@ impl Pacer {
         ensures { result ≡ self.now.pace.counts }
     {
         self.pace.counts()
+    }
+
+    /// Returns how many messages were taken from the rings when the host was told last what it does next, at most one of
+    /// each server. Whoever waits for room in a ring may try again if it is not 0.
+    pub fn taken(&self) -> u64
+        ensures { result ≡ self.now.taken }
+    {
+        self.taken
     }
 
     /// Takes a reading of the clock, and returns what the host does next. A unit that was being done ends with the
@@ -118,13 +128,12 @@ impl Pacer {
         ensures { Paces W.meaning took (paced_of self.old) house.old result house.new
             (paced_of self.new) }
     {
-        let polls = self.prepare(house, took);
-        if polls.out_of_memory {
+        if self.prepare(house, took) {
             return Next::OutOfMemory;
         }
         match house.idle_span() {
             None => self.go_on(house),
-            Some(span) => self.rest(house, span, polls.took),
+            Some(span) => self.rest(house, span),
         }
     }
 
@@ -155,16 +164,19 @@ impl Pacer {
         self.pace.note_behind(behind - passed);
     }
 
-    /// Charges the unit that was being done, lets the ticks pass that are over, and polls each server once.
-    fn prepare<W: Work, A: Allocator>(&mut self, house: &mut House<W, A>, took: u64) -> Polls
+    /// Charges the unit that was being done, lets the ticks pass that are over, and polls each server once. Returns
+    /// whether a poll found no memory for a message.
+    fn prepare<W: Work, A: Allocator>(&mut self, house: &mut House<W, A>, took: u64) -> bool
         ensures prepares { Prepares W.meaning took (doing_of self.old) self.old.pace house.old
-            house.new self.new.pace result.took result.out_of_memory }
+            house.new self.new.pace self.new.taken result }
         ensures listens { self.new.listens ≡ self.old.listens }
         ensures done { (doing_of self.new) ≡ None }
     {
         self.pay(house, took);
         self.catch_up(house);
-        poll_each(&OpenGate, house)
+        let polls = poll_each(&OpenGate, house);
+        self.taken = polls.took;
+        polls.out_of_memory
     }
 
     /// Runs a unit, if its tick has come. Somebody is ready.
@@ -172,9 +184,10 @@ impl Pacer {
         requires none { (doing_of self.old) ≡ None }
         requires ready { (M : History W) → Agrees W.meaning (core_of house.old) M
             → ¬ IsAtRest W.meaning (world_after W.meaning M) }
-        ensures does { (heard : Bool) → (count : ℕ) → Does W.meaning self.old.pace heard count
+        ensures does { (heard : Bool) → Does W.meaning self.old.pace heard self.old.taken
             house.old result house.new (doing_of self.new) self.new.listens }
         ensures pace { self.new.pace ≡ self.old.pace }
+        ensures taken { self.new.taken ≡ self.old.taken }
     {
         self.listens = false;
         let now = house.now();
@@ -201,19 +214,21 @@ impl Pacer {
         ensures doing { doing_of self.new ≡ Some server }
         ensures pace { self.new.pace ≡ self.old.pace }
         ensures listens { self.new.listens ≡ self.old.listens }
+        ensures taken { self.new.taken ≡ self.old.taken }
     {
         self.server = server;
         self.does = true;
     }
 
     /// Returns how the host rests. Nobody will be ready for `span` ticks.
-    fn rest<W: Work, A: Allocator>(&mut self, house: &House<W, A>, span: u64, took: u64) -> Next
+    fn rest<W: Work, A: Allocator>(&mut self, house: &House<W, A>, span: u64) -> Next
         requires none { (doing_of self.old) ≡ None }
         requires span { (M : History W) → Agrees W.meaning (core_of house.now) M
             → IsIdleSpan W.meaning (world_after W.meaning M) span }
-        ensures does { Does W.meaning self.old.pace self.old.listens took house.now result house.now
-            (doing_of self.new) self.new.listens }
+        ensures does { Does W.meaning self.old.pace self.old.listens self.old.taken house.now result
+            house.now (doing_of self.new) self.new.listens }
         ensures pace { self.new.pace ≡ self.old.pace }
+        ensures taken { self.new.taken ≡ self.old.taken }
     {
         if house.is_over() {
             return Next::Over;
@@ -222,7 +237,7 @@ impl Pacer {
         if now == LIMIT {
             return Next::ClockEnd;
         }
-        if took > 0 || !self.listens {
+        if self.taken > 0 || !self.listens {
             self.listens = true;
             return Next::Listen;
         }

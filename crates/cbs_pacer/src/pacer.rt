@@ -13,5 +13,7 @@ pub struct Pacer {
     pub(crate) server: u16,
     pub(crate) does: bool,
     pub(crate) listens: bool,
+    // How many messages the last polls took.
+    pub(crate) taken: u64,
     ghost there: { server < 64 },
 }

@@ -18,7 +18,7 @@ returns-clause-does g c =
       refl,
       c.requires.none,
       c.if-not-self.false,
-      omega (arith, c.if-took-gt0.false),
+      omega (arith, c.if-self-gt0.false),
       refl,
       (λ over. false≢true (sym c.if-is_over.false ∙ c.is_over.ensures.1 over)),
     )
