@@ -48,7 +48,7 @@ impl Pacer {
 
     /// Returns how many messages were taken from the rings when the host was told last what it does next, at most one of
     /// each server. Whoever waits for room in a ring may try again if it is not 0.
-    pub fn taken(&self) -> u64
+    pub fn taken(&self) -> u32
         ensures { result ≡ self.now.taken }
     {
         self.taken
@@ -175,7 +175,7 @@ impl Pacer {
         self.pay(house, took);
         self.catch_up(house);
         let polls = poll_each(&OpenGate, house);
-        self.taken = polls.took;
+        self.taken = polls.took as u32;
         polls.out_of_memory
     }
 

@@ -14,6 +14,6 @@ pub struct Pacer {
     pub(crate) does: bool,
     pub(crate) listens: bool,
     // How many messages the last polls took.
-    pub(crate) taken: u64,
+    pub(crate) taken: u32,
     ghost there: { server < 64 },
 }
