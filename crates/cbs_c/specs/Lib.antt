@@ -1,4 +1,5 @@
 pub mod Openings
+pub mod Paces
 pub mod Statuses
 pub mod Values
 -- what the clauses name of the libraries below

@@ -6,9 +6,11 @@
 mod client;
 mod handles;
 mod house;
+mod pace;
 mod status;
 mod values;
 mod version;
 
+pub use pace::Next;
 pub use values::{Turn, Unit, View};
 pub use version::{MAJOR, MINOR, PATCH};

@@ -4,6 +4,7 @@ pub mod Owned
 pub mod Statuses
 pub mod Calls
 pub mod Openings
+pub mod Paces
 pub mod Plans
 pub mod Lending
 pub mod LendingHandles

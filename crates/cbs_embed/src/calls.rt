@@ -2,13 +2,17 @@
 
 ghost use Rattle.cbs_embed.specs.Calls.{OnHeld, InHouse, InClient, Runs, Turns, Polls, Advances, ChargesServer, ShowsCharges, TellsClock, Spans, Shows, Promises, Sends, Ends, Waits};
 ghost use Rattle.cbs_embed.specs.Handles.{held_by};
+ghost use Rattle.cbs_embed.specs.Paces.{Asks, BeginsPace, EndsUnit};
+ghost use Rattle.cbs_pace.specs.Paces.{time_to};
+ghost use Rattle.std.specs.Prelude.{◌≡◌, min, OnErr};
 
 use crate::handle::Handle;
 use crate::refusal::Refusal;
-use crate::told::{Turn, Unit};
-use crate::{on_client, on_house};
+use crate::told::{Asked, Turn, Unit};
+use crate::{in_time, on_client, on_house};
 use cbs_core::{Charges, ServerView};
 use cbs_house::Poll;
+use cbs_pacer::{Pacer, Rounding, Tick};
 
 /// Runs one unit, as [`House::run`] does. Returns what ran, and its token.
 pub fn run(handle: &mut Handle) -> Result<Unit, Refusal>
@@ -84,6 +88,67 @@ pub fn promised(handle: &mut Handle, server: u16) -> Result<Option<u128>, Refusa
     ensures { OnHeld (InHouse (Promises server)) (held_by handle.old) result (held_by handle.new) }
 {
     on_house::promised(handle.house_mut()?, server)
+}
+
+/// Returns a pacer of a house, as [`Pacer::begin`] does. Its time begins at this reading of the clock, in nanoseconds.
+pub fn pace(
+    handle: &mut Handle,
+    tick: Tick,
+    rounding: Rounding,
+    reading: u64,
+) -> Result<Pacer, Refusal>
+    ensures { OnHeld (InHouse (BeginsPace tick rounding reading)) (held_by handle.old) result
+        (held_by handle.new) }
+{
+    in_time::pace(handle.house_mut()?, tick, rounding, reading)
+}
+
+/// Takes a reading of the clock, in nanoseconds, and returns what the host does next, as [`Pacer::next`] does, with the
+/// token of the job whose unit it does. After a refusal the pacer is unchanged.
+pub fn next(handle: &mut Handle, pacer: &mut Pacer, reading: u64) -> Result<Asked, Refusal>
+    ensures next { OnHeld (InHouse (Asks reading (time_to reading pacer.old.pace) pacer.old
+        pacer.new)) (held_by handle.old) result (held_by handle.new) }
+    ensures kept { OnErr result (pacer.new ≡ pacer.old) }
+{
+    in_time::next(handle.house_mut()?, pacer, reading)
+}
+
+/// Does what [`next`] does, but charges the unit that was being done the time `took`, as [`Pacer::next_measured`] does.
+pub fn next_measured(
+    handle: &mut Handle,
+    pacer: &mut Pacer,
+    reading: u64,
+    took: u64,
+) -> Result<Asked, Refusal>
+    ensures next { OnHeld (InHouse (Asks reading (min took (time_to reading pacer.old.pace))
+        pacer.old pacer.new)) (held_by handle.old) result (held_by handle.new) }
+    ensures kept { OnErr result (pacer.new ≡ pacer.old) }
+{
+    in_time::next_measured(handle.house_mut()?, pacer, reading, took)
+}
+
+/// Ends a unit that was being done, at this reading of the clock, in nanoseconds, as [`Pacer::done`] does. After a
+/// refusal the pacer is unchanged.
+pub fn done(handle: &mut Handle, pacer: &mut Pacer, reading: u64) -> Result<(), Refusal>
+    ensures done { OnHeld (InHouse (EndsUnit reading (time_to reading pacer.old.pace) pacer.old
+        pacer.new)) (held_by handle.old) result (held_by handle.new) }
+    ensures kept { OnErr result (pacer.new ≡ pacer.old) }
+{
+    in_time::done(handle.house_mut()?, pacer, reading)
+}
+
+/// Does what [`done`] does, but charges the time `took`, as [`Pacer::done_measured`] does.
+pub fn done_measured(
+    handle: &mut Handle,
+    pacer: &mut Pacer,
+    reading: u64,
+    took: u64,
+) -> Result<(), Refusal>
+    ensures done { OnHeld (InHouse (EndsUnit reading (min took (time_to reading pacer.old.pace))
+        pacer.old pacer.new)) (held_by handle.old) result (held_by handle.new) }
+    ensures kept { OnErr result (pacer.new ≡ pacer.old) }
+{
+    in_time::done_measured(handle.house_mut()?, pacer, reading, took)
 }
 
 /// Sends a job, as [`Client::send`] does, and returns its number. Refuses, in this order: by the job's units; by

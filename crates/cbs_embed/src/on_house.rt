@@ -11,7 +11,7 @@ use cbs_core::{Charges, Ran, ServerView};
 use cbs_house::{House, HouseError, Poll};
 
 /// Returns the token of the job in the result of a run, or 0 if no job got a unit.
-fn token_of(house: &House<UnitJob>, ran: Ran) -> u64
+pub(crate) fn token_of(house: &House<UnitJob>, ran: Ran) -> u64
     requires { NamesJob counting ran house.now }
     ensures { NamesToken ran result house.now }
 {
@@ -23,7 +23,7 @@ fn token_of(house: &House<UnitJob>, ran: Ran) -> u64
 }
 
 /// Drops the result of a finished job. The host gets the job's token, so no result is kept.
-fn forget(house: &mut House<UnitJob>, ran: Ran)
+pub(crate) fn forget(house: &mut House<UnitJob>, ran: Ran)
     ensures { Drops ran house.old house.new }
 {
     if let Ran::Done(done) = ran {

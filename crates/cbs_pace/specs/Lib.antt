@@ -1,0 +1,4 @@
+pub mod Times
+pub mod Units
+pub mod Ledgers
+pub mod Paces
