@@ -15,6 +15,7 @@ mod meeting;
 mod memory;
 mod metering;
 mod naps;
+mod pacing;
 mod patience;
 mod polling;
 mod rows;
