@@ -1,9 +1,8 @@
 -- Units of a server, one after another: they are paid for.
-use Rattle.std.proofs.Common.{◌≡◌, ℕ, ◌+◌, ◌-◌, ◌*◌, ◌≤◌, ◌<◌, min, List, [], ◌∷◌, arith, refl}
+use Rattle.std.proofs.Common.{ℕ, ◌<◌, List, [], ◌∷◌, arith, refl}
 use Rattle.cbs_pace.specs.declared.rounding.Rounding.{Rounding}
 use Rattle.cbs_pace.specs.declared.rounding.Rounding.TheVariants.{Up, Carry}
-use Rattle.cbs_pace.specs.Units.{charge_of, carried_of}
-use Rattle.cbs_pace.specs.Ledgers.{Ledger, with_unit, with_units, ticks_taken, IsPaidFor, IsChargedRightly, IsBalanced, IsPaid}
+use Rattle.cbs_pace.specs.Ledgers.{Ledger, with_unit, with_units, IsPaidFor, IsChargedRightly, IsBalanced, IsPaid}
 use Rattle.cbs_pace.proofs.Units.{unit_paid, carried_exactly, rounded_up, rounded_less, carried_less}
 
 one_paid : (r : Rounding) (tick took : ℕ) (a b : Ledger) → 0 < tick → IsPaidFor tick a b → IsPaidFor tick a (with_unit r tick took b)

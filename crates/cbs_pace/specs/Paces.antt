@@ -1,4 +1,4 @@
--- The pace of a house: the length of its tick, when its time began, what is over of it, and what its servers carry.
+-- The pace of a house: the length of its tick, its time, and what its servers carry.
 use Rattle.std.specs.Prelude.{Bool, ℕ, ◌≡◌, ◌+◌, ◌-◌, ◌*◌, ◌≤◌, ◌<◌, max, min, List, replicate, length, slice_index, slice_set}
 use Rattle.cbs_pace.specs.declared.rounding.Rounding.{Rounding}
 use Rattle.cbs_pace.specs.declared.watch.Watch.{Watch}
@@ -6,8 +6,9 @@ use Rattle.cbs_pace.specs.declared.counts.Counts.{Counts}
 use Rattle.cbs_pace.specs.Times.{begun_at, seen_at, HasCome, ticks_behind, most}
 use Rattle.cbs_pace.specs.Units.{charge_of, carried_of, rounding_of, carries_of}
 
--- The length of a tick, whether what is less than one is carried, and where the house's clock stood when its time
--- began. Then the time, what each server carries to its next unit, and what was seen
+-- The length of a tick in nanoseconds, and whether what is less than one is carried. The tick at
+-- which the house's clock stood when its time began. The time, what each server carries to its next
+-- unit in nanoseconds, and what was seen
 pub record Pacing : Type 0 where
   pub tick : ℕ
   pub carries : Bool
@@ -18,7 +19,14 @@ pub record Pacing : Type 0 where
 
 -- nothing was seen yet
 abbrev pub no_counts : Counts
-no_counts = record { units = 0; overruns = 0; longest = 0; charged = 0; behind = 0; most_behind = 0 }
+no_counts = record {
+  units = 0;
+  overruns = 0;
+  longest = 0;
+  charged = 0;
+  behind = 0;
+  most_behind = 0;
+}
 
 -- the pace of a house whose clock stands at `now`, and whose time begins at a reading
 abbrev pub pacing_begun : ℕ → Rounding → ℕ → ℕ → Pacing
@@ -39,7 +47,8 @@ carried_at p s = slice_index p.carried s
 abbrev pub ticks_counted : Pacing → ℕ → ℕ
 ticks_counted p now = now - p.first
 
--- the house's next tick has come, if its clock stands at `now`: it is over as long as the ticks that are counted
+-- The house's tick `now` has come: the ticks that are counted are over. A house whose clock stands
+-- at `now` may begin its next unit
 abbrev pub IsDue : Pacing → ℕ → Type 0
 IsDue p now = HasCome p.tick (ticks_counted p now) p.watch
 
@@ -72,7 +81,9 @@ pacing_with_unit p s took = record p {
 
 -- the pace after so many ticks were charged for a unit
 abbrev pub pacing_with_charge : ℕ → Pacing → Pacing
-pacing_with_charge ticks p = record p { counts = record p.counts { charged = min (p.counts.charged + ticks) most } }
+pacing_with_charge ticks p = record p {
+  counts = record p.counts { charged = min (p.counts.charged + ticks) most };
+}
 
 -- the pace after the house's clock was seen to be so many whole ticks behind
 abbrev pub pacing_with_behind : ℕ → Pacing → Pacing

@@ -1,5 +1,5 @@
 -- Time by the readings of a clock, and when a tick comes. Times and readings are in nanoseconds.
-use Rattle.std.specs.Prelude.{ℕ, ◌≡◌, ◌+◌, ◌-◌, ◌*◌, ◌/◌, ◌^◌, ◌≤◌, ◌<◌, min, List, [], ◌∷◌}
+use Rattle.std.specs.Prelude.{ℕ, ◌+◌, ◌-◌, ◌*◌, ◌/◌, ◌^◌, ◌≤◌, min}
 use Rattle.cbs_pace.specs.declared.watch.Watch.{Watch}
 
 -- the latest time and the latest reading
@@ -14,11 +14,6 @@ begun_at reading = record { seen = reading; over = 0 }
 abbrev pub seen_at : ℕ → Watch → Watch
 seen_at reading w = record { seen = reading; over = min (w.over + (reading - w.seen)) most }
 
--- a watch after some readings, the first one first
-abbrev pub seen_all : Watch → List ℕ → Watch
-seen_all w [] = w
-seen_all w (r ∷ rs) = seen_all (seen_at r w) rs
-
 -- what the clock will show when so much time is over, if it goes on from what it showed last
 abbrev pub shown_at : Watch → ℕ → ℕ
 shown_at w time = min (w.seen + (time - w.over)) most
@@ -30,8 +25,3 @@ HasCome tick n w = n * tick ≤ w.over
 -- by how many whole ticks a clock that stands at tick n is behind
 abbrev pub ticks_behind : ℕ → ℕ → Watch → ℕ
 ticks_behind tick n w = w.over / tick - n
-
--- A clock that stands at tick n is ahead by a tick at most. The tick that it is ahead by is that of the unit that it
--- counted last
-abbrev pub IsAheadByATick : ℕ → ℕ → Watch → Type 0
-IsAheadByATick tick n w = n * tick ≤ w.over + tick

@@ -1,4 +1,4 @@
--- What a unit is charged for the time that it took, and what its server then carries to its next unit.
+-- What a unit is charged for the time that it took, and what its server carries to the next one.
 use Rattle.std.specs.Prelude.{Bool, true, false, ℕ, ◌+◌, ◌-◌, ◌/◌, ◌%◌}
 use Rattle.cbs_pace.specs.declared.rounding.Rounding.{Rounding}
 use Rattle.cbs_pace.specs.declared.rounding.Rounding.TheVariants.{Up, Carry}

@@ -1,6 +1,7 @@
 //! What was seen.
 
-/// What was seen of a house by its clock. Times are in nanoseconds, and each number is at most `u64::MAX`.
+/// What was seen of a house by the readings of a clock. A count that would be more than `u64::MAX`
+/// stays at `u64::MAX`.
 #[repr(C)]
 #[derive(Clone, Copy, Debug, PartialEq, Eq)]
 pub struct Counts {
@@ -8,12 +9,12 @@ pub struct Counts {
     pub units: u64,
     /// How many of them took longer than a tick.
     pub overruns: u64,
-    /// The longest unit.
+    /// The time that the longest of them took, in nanoseconds.
     pub longest: u64,
     /// How many ticks were charged for overruns.
     pub charged: u64,
-    /// How many whole ticks the house's clock is behind the real one, as it was seen last.
+    /// By how many whole ticks the house's clock was behind when this was noted last.
     pub behind: u64,
-    /// The most that this was.
+    /// The most whole ticks by which it was behind when this was noted.
     pub most_behind: u64,
 }

@@ -1,5 +1,5 @@
-//! The pace of a house: what ticks are by a clock that is read to it, and what a unit is charged for the time that it took. No clock
-//! is read here, and nobody sleeps.
+//! The pace of a house: which of its ticks have come, by a clock that is read to it, and what a
+//! unit is charged for the time that it took. No clock is read here, and nobody sleeps.
 //!
 //! Times and readings are in nanoseconds.
 #![tactic(auto)]

@@ -10,7 +10,8 @@ use crate::tick::Tick;
 use crate::watch::Watch;
 use std::marker::Model;
 
-/// The pace of a house: which of its ticks have come, by the readings of a clock, and what its servers are charged for their units.
+/// The pace of a house: which of its ticks have come, by the readings of a clock, and what its
+/// servers are charged for their units.
 ///
 /// Times and readings are in nanoseconds.
 #[repr(C)]
@@ -19,10 +20,10 @@ pub struct Pace {
     tick: Tick,
     // Whether what is less than a tick is carried.
     carries: bool,
-    // Where the house's clock stood when its time began.
+    // The tick at which the house's clock stood when its time began.
     first: u64,
     watch: Watch,
-    // What each server carries to its next unit, less than a tick.
+    // What each server carries to its next unit in nanoseconds, less than a tick.
     carried: [u64; 64],
     counts: Counts,
 }
@@ -61,7 +62,8 @@ impl Model for Pace {
 }
 
 impl Pace {
-    /// Returns the pace of a house whose clock stands at `now`. Its time begins at this reading.
+    /// Returns the pace of a house whose clock stands at tick `now`. Its time begins at this
+    /// reading.
     pub fn begin(tick: Tick, rounding: Rounding, now: u64, reading: u64) -> Pace
         ensures { result ≡ pacing_begun tick rounding now reading }
     {
@@ -84,7 +86,8 @@ impl Pace {
         }
     }
 
-    /// Takes a reading of the clock into account. Returns the time since the last one, 0 if the clock stepped back.
+    /// Takes a reading of the clock into account. Returns the nanoseconds since the last reading, 0
+    /// if the clock stepped back.
     pub fn see(&mut self, reading: u64) -> u64
         ensures kept { self.new ≡ pacing_seen reading self.old }
         ensures value { result ≡ time_to reading self.old }
@@ -94,7 +97,8 @@ impl Pace {
         self.watch.see(reading)
     }
 
-    /// Returns whether the next tick of the house has come, whose clock stands at `now`.
+    /// Returns whether tick `now` of the house has come, so that a house whose clock stands there
+    /// may begin its next unit.
     pub fn is_due(&self, now: u64) -> bool
         ensures { IsTrue result ↔ IsDue self.now now }
     {
@@ -102,7 +106,8 @@ impl Pace {
             .has_come(now.saturating_sub(self.first), self.watch)
     }
 
-    /// Returns what the clock will show when the house's tick `now` comes, or `u64::MAX` if it will not show that.
+    /// Returns what the clock will show when the house's tick `now` comes, in nanoseconds, or
+    /// `u64::MAX` if it cannot show that.
     pub fn due(&self, now: u64) -> u64
         ensures comes { (reading : ℕ) → result < most → result ≤ reading
             → IsDue (pacing_seen reading self.now) now }
@@ -113,14 +118,15 @@ impl Pace {
         self.tick.due(now.saturating_sub(self.first), self.watch)
     }
 
-    /// Returns by how many whole ticks the house's clock is behind, which stands at `now`.
+    /// Returns by how many whole ticks the house's clock is behind if it stands at tick `now`.
     pub fn behind(&self, now: u64) -> u64
         ensures { result ≡ behind_of self.now now }
     {
         self.tick.behind(now.saturating_sub(self.first), self.watch)
     }
 
-    /// Returns how many ticks `server` is charged for a unit that took so long, and keeps the rest for its next unit.
+    /// Returns how many ticks `server` is charged for a unit that took `took` nanoseconds, and
+    /// keeps what the server carries to its next unit. The unit is counted.
     pub fn charge(&mut self, server: u16, took: u64) -> u64
         requires { server < 64 }
         ensures value { result ≡ unit_charge self.old server took }
@@ -143,14 +149,14 @@ impl Pace {
         ticks
     }
 
-    /// Records how many ticks were charged for a unit.
+    /// Counts so many ticks as charged for a unit.
     pub fn note_charge(&mut self, ticks: u64)
         ensures { self.new ≡ pacing_with_charge ticks self.old }
     {
         self.counts.charged = self.counts.charged.saturating_add(ticks);
     }
 
-    /// Records by how many whole ticks the house's clock is behind.
+    /// Notes by how many whole ticks the house's clock is behind.
     pub fn note_behind(&mut self, behind: u64)
         ensures { self.new ≡ pacing_with_behind behind self.old }
     {

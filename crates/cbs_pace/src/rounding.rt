@@ -3,13 +3,14 @@
 ghost use Rattle.std.specs.Prelude.{◌≡◌};
 ghost use Rattle.cbs_pace.specs.Units.{rounding_of, carries_of};
 
-/// How many ticks a unit is charged that took longer than one. Of what a server's units took beyond a tick, nothing is lost.
+/// How many ticks a unit is charged that took longer than one. Of what a server's units took beyond
+/// a tick, nothing is lost.
 #[derive(Clone, Copy, Debug, PartialEq, Eq)]
 pub enum Rounding {
     /// The time beyond its first tick, rounded up: a unit of 1.01 ticks is charged one.
     Up,
-    /// The whole ticks of what is carried of the server's earlier units and of the time beyond its first tick. What is less than a
-    /// tick is carried to the server's next unit.
+    /// The whole ticks of the time beyond its first tick and of what was carried from the server's
+    /// earlier units. What is less than a tick is carried to the server's next unit.
     Carry,
 }
 

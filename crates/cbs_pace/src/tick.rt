@@ -1,6 +1,6 @@
 //! The length of a tick, and the numbers that follow from it.
 
-ghost use Rattle.std.specs.Prelude.{◌≡◌, ◌≤◌, ◌<◌, ◌+◌, ◌-◌, ◌*◌, ◌/◌, ◌↔◌, ◌^◌, ℕ, min, max, IsTrue, IsSome, MatchOption};
+ghost use Rattle.std.specs.Prelude.{◌≡◌, ◌≤◌, ◌<◌, ◌+◌, ◌-◌, ◌*◌, ◌/◌, ◌↔◌, ◌^◌, ℕ, max, IsTrue, MatchOption};
 ghost use Rattle.cbs_pace.specs.Times.{HasCome, ticks_behind, shown_at, seen_at, most};
 ghost use Rattle.cbs_pace.specs.Units.{charge_of, carried_of};
 ghost use Rattle.cbs_pace.specs.declared.watch.Watch.{Watch};
@@ -11,7 +11,7 @@ use std::marker::Model;
 
 /// The length of a tick, at least a nanosecond.
 ///
-/// It is kept less one, so that there is no value that is no length: all bytes 0 are a tick of a nanosecond.
+/// It is kept less one, so that each value is a length: all bytes 0 are a tick of a nanosecond.
 #[repr(C)]
 #[derive(Clone, Copy, Debug, PartialEq, Eq)]
 pub struct Tick {
@@ -31,7 +31,7 @@ impl Model for Tick {
 }
 
 impl Tick {
-    /// Returns a tick of that length, or `None` if it is 0.
+    /// Returns a tick of so many nanoseconds, or `None` if they are 0.
     pub fn new(nanos: u64) -> Option<Tick>
         ensures { MatchOption result (nanos ≡ 0) (λ tick. (tick ≡ nanos) × (0 < nanos)) }
     {
@@ -43,7 +43,7 @@ impl Tick {
         })
     }
 
-    /// Returns a tick of that length, or of a nanosecond if it is 0.
+    /// Returns a tick of so many nanoseconds, or of one if they are 0.
     pub fn at_least_one(nanos: u64) -> Tick
         ensures { result ≡ max nanos 1 }
     {
@@ -52,7 +52,7 @@ impl Tick {
         }
     }
 
-    /// Returns its length.
+    /// Returns its length in nanoseconds.
     pub fn nanos(self) -> u64
         ensures value { result ≡ self }
         ensures long { 0 < self }
@@ -67,17 +67,20 @@ impl Tick {
         n <= watch.over / self.nanos()
     }
 
-    /// Returns how many whole ticks a clock is behind that stands at tick `n`, 0 if it is not.
+    /// Returns by how many whole ticks a clock that stands at tick `n` is behind, 0 if it is not.
     pub fn behind(self, n: u64, watch: Watch) -> u64
         ensures { result ≡ ticks_behind self n watch }
     {
         (watch.over / self.nanos()).saturating_sub(n)
     }
 
-    /// Returns what the clock will show when tick `n` comes, or `u64::MAX` if it will not show that.
+    /// Returns what the clock will show when tick `n` comes, in nanoseconds, or `u64::MAX` if it
+    /// cannot show that.
     pub fn due(self, n: u64, watch: Watch) -> u64
-        ensures comes { (reading : ℕ) → result < most → result ≤ reading → HasCome self n (seen_at reading watch) }
-        ensures not_before { (reading : ℕ) → reading < result → HasCome self n (seen_at reading watch) → HasCome self n watch }
+        ensures comes { (reading : ℕ) → result < most → result ≤ reading
+            → HasCome self n (seen_at reading watch) }
+        ensures not_before { (reading : ℕ) → reading < result
+            → HasCome self n (seen_at reading watch) → HasCome self n watch }
         ensures ahead { watch.seen ≤ result }
     {
         match n.checked_mul(self.nanos()) {
@@ -86,8 +89,8 @@ impl Tick {
         }
     }
 
-    /// Returns how many ticks a unit is charged that took `took`, by a server that carries `carried`, and sets what it
-    /// carries then.
+    /// Returns how many ticks a unit is charged that took `took` nanoseconds, if its server carries
+    /// `carried`. Then `carried` is what the server carries to its next unit.
     pub fn charge(self, rounding: Rounding, carried: &mut u64, took: u64) -> u64
         requires { carried.old < self }
         ensures value { result ≡ charge_of rounding self carried.old took }

@@ -1,12 +1,9 @@
 -- A house's clock is ahead of its time by a tick at most.
-use Rattle.std.proofs.Common.{◌≡◌, ◌≤◌, ◌<◌, ◌+◌, ◌-◌, ◌*◌, ◌/◌, min, ℕ, zero, suc, Bool, true, false, List, [], ◌∷◌, length, Option, Some, None, refl, ap, sym, ◌∙◌, arith, inl, inr, subst}
-use Rattle.std.proofs.lemmas.Bool.{cases_lt}
+use Rattle.std.proofs.Common.{◌≡◌, ◌≤◌, ◌<◌, ◌+◌, ◌-◌, ◌*◌, ◌/◌, ℕ, zero, suc, Bool, true, false, List, [], ◌∷◌, length, Option, Some, None, refl, ap, ◌∙◌, arith, subst}
 use Rattle.std.proofs.Math.Nat.{mul-le-mul_right}
-use Rattle.cbs_job.specs.Work.{Meaning}
 use Rattle.cbs_job.specs.declared.work.Work.{Ghosts}
-use Rattle.cbs_rules.specs.Rules.{clock_end}
 use Rattle.cbs_pace.specs.Paces.{Pacing, IsNotAhead, IsDue, IsPacing, unit_charge, carried_at, ticks_counted, behind_of, pacing_seen}
-use Rattle.cbs_pace.specs.Units.{charge_of, rounding_of}
+use Rattle.cbs_pace.specs.Units.{rounding_of}
 use Rattle.cbs_pace.specs.declared.watch.Watch.{Watch}
 use Rattle.cbs_steps.specs.declared.step.Step.{Step}
 use Rattle.cbs_steps.specs.declared.step.Step.TheVariants as step

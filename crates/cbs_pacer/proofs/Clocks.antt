@@ -1,8 +1,7 @@
 -- By how much steps move the clock.
-use Rattle.std.proofs.Common.{◌≡◌, ◌≤◌, ◌<◌, ◌+◌, ℕ, zero, suc, Bool, true, false, leb, ltb, if◌then◌else◌, List, [], ◌∷◌, ◌++◌, length, Option, Some, None, refl, ap, sym, ◌∙◌, arith, inl, inr}
-use Rattle.std.proofs.lemmas.Bool.{cases_lt, cases_Bool}
+use Rattle.std.proofs.Common.{◌≡◌, ◌≤◌, ◌+◌, ℕ, zero, suc, Bool, true, false, leb, if◌then◌else◌, List, [], ◌∷◌, Option, Some, None, refl, arith, inl, inr}
+use Rattle.std.proofs.lemmas.Bool.{cases_lt}
 use Rattle.cbs_job.specs.Work.{Meaning}
-use Rattle.cbs_job.specs.declared.work.Work.{Ghosts}
 use Rattle.cbs_rules.specs.Rules.{clock_end}
 use Rattle.cbs_lists.specs.Lists.{changed_at}
 use Rattle.cbs_steps.specs.Accounts.{account_with_charge}
@@ -12,7 +11,7 @@ use Rattle.cbs_steps.specs.History.{World, History, ◌⊕◌, faces, tick, tick
 use Rattle.cbs_steps.specs.declared.error.CoreError.{CoreError}
 use Rattle.cbs_steps.specs.declared.step.Step.{Step}
 use Rattle.cbs_steps.specs.declared.step.Step.TheVariants.{Submit, Run, Advance, Close, Charge}
-use Rattle.cbs_core.specs.Agreement.{Agrees, Follows, HasHistory}
+use Rattle.cbs_core.specs.Agreement.{Follows, HasHistory}
 use Rattle.cbs_core.specs.Held.{CoreHeld}
 use Rattle.cbs_clients.specs.Turns.{ArePolls}
 

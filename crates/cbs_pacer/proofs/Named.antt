@@ -1,5 +1,5 @@
 -- The job of a unit is named.
-use Rattle.std.proofs.Common.{◌≡◌, ℕ, Bool, true, false, Option}
+use Rattle.std.proofs.Common.{ℕ, Bool, true, false, Option}
 use Rattle.cbs_job.specs.Work.{Meaning}
 use Rattle.cbs_job.specs.declared.work.Work.{Ghosts}
 use Rattle.cbs_clients.specs.declared.house.House.{House}

@@ -1,12 +1,11 @@
 -- A house of which nothing changed made no step.
-use Rattle.std.proofs.Common.{◌≡◌, List, [], refl, ap, sym, ◌∙◌}
+use Rattle.std.proofs.Common.{◌≡◌, List, [], ap, sym, ◌∙◌}
 use Rattle.std.proofs.lemmas.List.{append-nil}
-use mathlib.Core.List.{IsPrefix}
 use Rattle.cbs_job.specs.Work.{Meaning}
 use Rattle.cbs_job.specs.declared.work.Work.{Ghosts}
 use Rattle.cbs_clients.specs.declared.house.House.{House}
 use Rattle.cbs_clients.specs.declared.message.Message.{Message}
-use Rattle.cbs_clients.specs.Houses.{Seat, SeesMore, core_of, seat_at, Made, SameHouse}
+use Rattle.cbs_clients.specs.Houses.{Seat, SeesMore, seat_at, Made, SameHouse}
 use Rattle.cbs_clients.proofs.MadeSteps.{made_look}
 
 -- the same but for what is known to wait, which is the same

@@ -1,16 +1,15 @@
 -- Calls of a pacer, one after another, make moves of which some are measured units.
-use Rattle.std.proofs.Common.{◌≡◌, ◌≢◌, ◌≤◌, ◌<◌, ◌+◌, ◌-◌, min, ℕ, zero, suc, Bool, true, false, eqb, leb, ltb, List, [], ◌∷◌, ◌++◌, length, get_or, Option, Some, None, refl, ap, sym, ◌∙◌, arith, inl, inr, subst}
+use Rattle.std.proofs.Common.{◌≡◌, ◌≢◌, ◌≤◌, ◌<◌, ◌+◌, ◌-◌, ℕ, zero, suc, Bool, true, false, eqb, leb, ltb, List, [], ◌∷◌, ◌++◌, length, get_or, Option, Some, None, refl, ap, sym, ◌∙◌, arith, inl, inr, subst}
 use Rattle.std.specs.Prelude.{if◌then◌else◌, slice_set, slice_index, replicate}
-use Rattle.std.proofs.lemmas.Bool.{cases_lt, cases_Bool, cases_eq, false≢true}
+use Rattle.std.proofs.lemmas.Bool.{cases_lt, cases_eq, false≢true}
 use Rattle.std.proofs.lemmas.Bool.Decides.{nat_tests}
 use Rattle.std.proofs.lemmas.List.{append_assoc, get_or_past, get_or-set_same, get_or-set_other}
 use Rattle.cbs_job.specs.Work.{Meaning}
 use Rattle.cbs_job.specs.declared.work.Work.{Ghosts}
-use Rattle.cbs_job.specs.declared.completion.Completion.{Completion}
 use Rattle.cbs_rules.specs.Rules.{clock_end}
 use Rattle.cbs_steps.specs.Accounts.{Account, no_account}
 use Rattle.cbs_steps.specs.Continuations.{◌⊕⊕◌}
-use Rattle.cbs_steps.specs.History.{World, Setup, History, ◌⊕◌, account, after, chosen, runner, after_run, charge_refusal, run_reply, world_after, reply_in}
+use Rattle.cbs_steps.specs.History.{World, Setup, History, ◌⊕◌, account, after, chosen, runner, after_run, run_reply}
 use Rattle.cbs_steps.specs.Quiet.{IsQuietAdvance, AdvanceQuietly}
 use Rattle.cbs_steps.specs.declared.reply.Ran.{Ran}
 use Rattle.cbs_steps.specs.declared.reply.Ran.TheVariants as ran
@@ -27,7 +26,7 @@ use Rattle.cbs_clients.specs.Meters.{charge_steps}
 use Rattle.cbs_clients.specs.Turns.{ArePolls}
 use Rattle.cbs_pace.specs.declared.rounding.Rounding.{Rounding}
 use Rattle.cbs_pace.specs.Units.{charge_of, carried_of, rounding_of}
-use Rattle.cbs_pace.specs.Ledgers.{Ledger, new_ledger, with_unit}
+use Rattle.cbs_pace.specs.Ledgers.{Ledger, new_ledger}
 use Rattle.cbs_pace.specs.Paces.{Pacing, IsPacing, carried_at, unit_charge, behind_of, pacing_begun, pacing_with_behind, pacing_with_charge, pacing_with_unit}
 use Rattle.cbs_pace.specs.declared.counts.Counts.{Counts}
 use Rattle.cbs_pacer.specs.declared.pacer.Pacer.{Pacer}

@@ -1,32 +1,27 @@
 -- The laws of a server's share and lateness in time.
-use Rattle.std.proofs.Common.{◌≡◌, ◌≤◌, ◌<◌, ◌+◌, ◌-◌, ◌*◌, ◌/◌, ℕ, zero, suc, Bool, true, false, eqb, List, [], ◌∷◌, ◌++◌, length, Option, Some, None, refl, ap, sym, ◌∙◌, arith, inl, inr, subst, get_or}
-use Rattle.std.specs.Prelude.{if◌then◌else◌}
-use Rattle.std.proofs.lemmas.Bool.{cases_lt, cases_Bool, cases_eq}
+use Rattle.std.proofs.Common.{◌≡◌, ◌≤◌, ◌<◌, ◌+◌, ◌-◌, ◌*◌, ◌/◌, ℕ, zero, suc, true, false, eqb, List, [], ◌∷◌, ◌++◌, length, Some, None, refl, ap, sym, ◌∙◌, arith, inl, inr, subst, get_or}
+use Rattle.std.proofs.lemmas.Bool.{cases_Bool, cases_eq}
 use Rattle.std.proofs.lemmas.Bool.Decides.{nat_tests}
-use Rattle.std.proofs.lemmas.List.{append_assoc, append-nil, length-map, get_or-map}
+use Rattle.std.proofs.lemmas.List.{append_assoc, length-map, get_or-map}
 use Rattle.std.proofs.Math.Nat.{mul-le-mul_right}
 use Rattle.cbs_job.specs.Work.{Meaning}
 use Rattle.cbs_lists.specs.Lists.{changed_at}
 use Rattle.cbs_lists.proofs.Lists.{changed_here}
-use Rattle.cbs_steps.specs.Faces.{is_ready}
-use Rattle.cbs_steps.specs.Accounts.{Account, face_of, no_account, taken, account_with_unit, account_with_charge, account_with_replenishment, account_let_go}
-use Rattle.cbs_steps.specs.History.{World, Setup, History, account, after, next, tick, ticks, runner, after_run, after_charging, let_go, charge_refusal, world_after}
+use Rattle.cbs_steps.specs.Accounts.{no_account, taken, account_with_unit, account_with_charge, account_let_go}
+use Rattle.cbs_steps.specs.History.{World, Setup, History, account, after, next, tick, runner, after_run, after_charging, let_go, charge_refusal}
 use Rattle.cbs_steps.specs.Laws.{account_in, IsWithinShare}
 use Rattle.cbs_steps.specs.Lateness.{later_charges, KeepsLateness}
 use Rattle.cbs_steps.specs.Promises.{when}
 use Rattle.cbs_steps.specs.Windows.{KeepsShare}
-use Rattle.cbs_steps.specs.Quiet.{AdvanceQuietly}
 use Rattle.cbs_steps.specs.declared.step.Step.{Step}
 use Rattle.cbs_steps.specs.declared.step.Step.TheVariants as step
 use Rattle.cbs_steps.proofs.Histories.{holds_next, holds_ticks, runner_ready, charged_there}
 use Rattle.cbs_steps.proofs.Running.{replenished_account}
 use Rattle.cbs_clients.specs.Meters.{charge_steps}
 use Rattle.cbs_pace.specs.declared.rounding.Rounding.{Rounding}
-use Rattle.cbs_pace.specs.Units.{charge_of}
-use Rattle.cbs_pace.specs.Ledgers.{Ledger, new_ledger, with_unit, ticks_taken, IsPaidFor}
-use Rattle.cbs_pace.specs.Paces.{Pacing, behind_of}
+use Rattle.cbs_pace.specs.Ledgers.{ticks_taken, IsPaidFor}
 use Rattle.cbs_pace.proofs.Units.{unit_paid}
-use Rattle.cbs_pacer.specs.Timed.{Timed, Makes, Works, ledger_of, next_charge, steps_of, timed_account, AreTimed, IsWithinShareOfTime, KeepsShareOfTime, KeepsLatenessInTime}
+use Rattle.cbs_pacer.specs.Timed.{Timed, Makes, Works, ledger_of, next_charge, steps_of, timed_account, AreTimed, KeepsShareOfTime, KeepsLatenessInTime}
 use Rattle.cbs_pacer.proofs.Units.{ready_there}
 
 module _ {W : Type 0} (work : Meaning W) where

@@ -1,5 +1,5 @@
 -- What a pacer does to its house.
-use Rattle.std.specs.Prelude.{ℕ, ◌≡◌, ◌≤◌, ◌<◌, ◌+◌, ◌-◌, min, if◌then◌else◌, Bool, true, false, ◌↔◌, List, [], ◌∷◌, length, Option, Some, None}
+use Rattle.std.specs.Prelude.{ℕ, ◌≡◌, ◌≤◌, ◌<◌, ◌+◌, ◌-◌, min, if◌then◌else◌, Bool, true, false, List, [], ◌∷◌, length, Option, Some, None}
 use Rattle.cbs_job.specs.Work.{Meaning}
 use Rattle.cbs_job.specs.declared.work.Work.{Ghosts}
 use Rattle.cbs_rules.specs.Rules.{clock_end}
@@ -23,8 +23,8 @@ use Rattle.cbs_pacer.specs.declared.pacer.Pacer.{Pacer}
 use Rattle.cbs_pacer.specs.declared.next.Next.{Next}
 use Rattle.cbs_pacer.specs.declared.next.Next.TheVariants as next
 
--- What a pacer keeps: the pace, the server whose unit is being done, if one is, whether the host listens for its bell, and
--- how many messages the last polls took
+-- What a pacer keeps: the pace, and the server whose unit is being done, if one is. Whether the
+-- host listens for its bell, and how many messages the last polls took
 pub record Paced : Type 0 where
   pub pace : Pacing
   pub doing : Option ℕ
@@ -48,7 +48,8 @@ module _ {W : Type 0} where
   payment None n = []
   payment (Some s) n = charge_steps s n
 
--- how many ticks are charged for a unit, if there was one: what its pace says, as far as the clock can hold it
+-- How many ticks are charged for a unit, if there was one: what its pace says, as far as the
+-- house's clock can hold it
 abbrev pub ticks_due : Option ℕ → Pacing → ℕ → ℕ → ℕ
 ticks_due None p took now = 0
 ticks_due (Some s) p took now = min (unit_charge p s took) (clock_end - now)
@@ -69,28 +70,33 @@ StillRuns None h = Unit {0}
 StillRuns (Some s) h = is_running (core_of h) s ≡ true
 
 module _ {W A : Type 0} {g : Ghosts W} where
-  -- The unit that was being done was paid for, which took so long. If its server still runs, it was charged what its
-  -- pace says, as far as the clock can hold it
-  pub record PaysUnit (work : Meaning W) (took : ℕ) (doing : Option ℕ) (p : Pacing) (old new : House W A g) (q : Pacing) : Type 0 where
+  -- The unit that was being done was paid for, which took so long. If its server still runs, it was
+  -- charged what its pace says, as far as the house's clock can hold it
+  pub record PaysUnit (work : Meaning W) (took : ℕ) (doing : Option ℕ) (p : Pacing)
+      (old new : House W A g) (q : Pacing) : Type 0 where
     pub ticks : ℕ
     pub made : Made work old new (payment doing ticks)
     pub most : ticks ≤ ticks_due doing p took (core_of old).clock
     pub in_full : StillRuns doing old → ticks ≡ ticks_due doing p took (core_of old).clock
     pub pace : q ≡ pace_paid doing p took ticks
 
-  -- The house let the ticks pass by which its clock was behind, as far as nobody was ready
-  pub record Passes (work : Meaning W) (p : Pacing) (old new : House W A g) (q : Pacing) : Type 0 where
+  -- The house let the ticks pass by which its clock was behind, as long as nobody was ready
+  pub record Passes (work : Meaning W) (p : Pacing) (old new : House W A g) (q : Pacing)
+      : Type 0 where
     pub span : Option ℕ
     pub idle : SpanOf work old span
     pub ticks : ℕ
     pub passed : ticks ≡ ticks_to_pass span (behind_of p (core_of old).clock)
     pub made : Made work old new (step.Advance ticks ∷ [])
-    pub quiet : (M : History W) → Agrees work (core_of old) M → IsQuiet work (world_after work M) ticks
+    pub quiet : (M : History W) → Agrees work (core_of old) M
+        → IsQuiet work (world_after work M) ticks
     pub pace : q ≡ pacing_with_behind (behind_of p (core_of old).clock - ticks) p
 
 module _ {W A : Type 0} {g : Ghosts W} where
-  -- the unit that was being done was paid for, the ticks passed that are over, and each server was polled once
-  pub record Prepares (work : Meaning W) (took : ℕ) (doing : Option ℕ) (p : Pacing) (old new : House W A g) (q : Pacing) (count : ℕ) (out_of_memory : Bool) : Type 0 where
+  -- The unit that was being done was paid for, the ticks passed that are over, and each server was
+  -- polled once
+  pub record Prepares (work : Meaning W) (took : ℕ) (doing : Option ℕ) (p : Pacing)
+      (old new : House W A g) (q : Pacing) (count : ℕ) (out_of_memory : Bool) : Type 0 where
     pub paid : House W A g
     pub after : Pacing
     pub pays : PaysUnit work took doing p old paid after
@@ -122,53 +128,70 @@ server_ran (ran.Done c) = Some c.server
 
 module _ {W A : Type 0} {g : Ghosts W} where
   -- A unit was begun: its tick had come. The pacer knows whose it is
-  pub record Begins (work : Meaning W) (p : Pacing) (old : House W A g) (told : Ran) (new : House W A g) (doing : Option ℕ) : Type 0 where
+  pub record Begins (work : Meaning W) (p : Pacing) (old : House W A g) (told : Ran)
+      (new : House W A g) (doing : Option ℕ) : Type 0 where
     pub run : RunOf work old told new
     pub due : IsDue p (core_of old).clock
     pub server : doing ≡ server_ran told
     pub some : (s : ℕ) × (server_ran told ≡ Some s)
 
-  -- The host sleeps, since the tick of the next unit has not come. It has come at each reading from that time on
+  -- The host sleeps, since the tick of the next unit has not come. It has come at each reading from
+  -- that time on, and at none before
   pub record Sleeps (p : Pacing) (h : House W A g) (until : ℕ) : Type 0 where
     pub early : ¬ IsDue p (core_of h).clock
-    pub comes : (reading : ℕ) → until < most → until ≤ reading → IsDue (pacing_seen reading p) (core_of h).clock
-    pub not_before : (reading : ℕ) → reading < until → ¬ IsDue (pacing_seen reading p) (core_of h).clock
+    pub comes : (reading : ℕ) → until < most → until ≤ reading
+        → IsDue (pacing_seen reading p) (core_of h).clock
+    pub not_before : (reading : ℕ) → reading < until
+        → ¬ IsDue (pacing_seen reading p) (core_of h).clock
 
   -- nobody is ready
   abbrev pub Rests : Meaning W → House W A g → Type 0
   Rests work h = (M : History W) → Agrees work (core_of h) M → IsAtRest work (world_after work M)
 
-  -- The host waits, since nobody is ready. At each reading from that time on the ticks are over for which nobody will be
-  -- ready
+  -- The host waits, since nobody is ready. At each reading from that time on, the ticks are over
+  -- for which nobody will be ready
   pub record Waits (work : Meaning W) (p : Pacing) (h : House W A g) (until : ℕ) : Type 0 where
     pub span : ℕ
-    pub idle : (M : History W) → Agrees work (core_of h) M → IsIdleSpan work (world_after work M) span
-    pub comes : (reading : ℕ) → until < most → until ≤ reading → IsDue (pacing_seen reading p) ((core_of h).clock + span)
+    pub idle : (M : History W) → Agrees work (core_of h) M
+        → IsIdleSpan work (world_after work M) span
+    pub comes : (reading : ℕ) → until < most → until ≤ reading
+        → IsDue (pacing_seen reading p) ((core_of h).clock + span)
 
-  -- What the host does next, by the house before and after, if there was memory for each message. `heard` says whether it
-  -- listened for its bell, `count` how many messages were taken, and `hears` whether it listens from now on. It waits only
-  -- if it listened, and then no message was taken
-  abbrev pub Does : Meaning W → Pacing → Bool → ℕ → House W A g → Next → House W A g → Option ℕ → Bool → Type 0
-  Does work p heard count old (next.Do told) new doing hears = Begins work p old told new doing × (hears ≡ false)
+  -- What the host does next, by the house before and after, if there was memory for each message.
+  -- `heard` says whether it listened for its bell, `count` how many messages were taken, and
+  -- `hears` whether it listens from now on. It waits only if it listened and no message was taken
+  abbrev pub Does : Meaning W → Pacing → Bool → ℕ → House W A g → Next → House W A g → Option ℕ
+      → Bool → Type 0
+  Does work p heard count old (next.Do told) new doing hears =
+      Begins work p old told new doing × (hears ≡ false)
   Does work p heard count old (next.SleepUntil until) new doing hears =
       Sleeps p old until × (new ≡ old) × (doing ≡ None) × (hears ≡ false)
-  Does work p heard count old next.Listen new doing hears = Rests work old × (new ≡ old) × (doing ≡ None) × (hears ≡ true)
-      × (heard ≡ true → 0 < count) × ¬ IsOver (core_of old)
-  Does work p heard count old (next.WaitUntil until) new doing hears = Waits work p old until × (new ≡ old) × (doing ≡ None)
-      × (heard ≡ true) × (count ≡ 0) × (hears ≡ false) × ¬ IsOver (core_of old)
-  Does work p heard count old next.Over new doing hears = IsOver (core_of old) × (new ≡ old) × (doing ≡ None)
-  Does work p heard count old next.ClockEnd new doing hears = ((core_of old).clock ≡ clock_end) × (new ≡ old) × (doing ≡ None)
+  Does work p heard count old next.Listen new doing hears =
+      Rests work old × (new ≡ old) × (doing ≡ None) × (hears ≡ true) × (heard ≡ true → 0 < count)
+      × ¬ IsOver (core_of old)
+  Does work p heard count old (next.WaitUntil until) new doing hears =
+      Waits work p old until × (new ≡ old) × (doing ≡ None) × (heard ≡ true) × (count ≡ 0)
+      × (hears ≡ false) × ¬ IsOver (core_of old)
+  Does work p heard count old next.Over new doing hears =
+      IsOver (core_of old) × (new ≡ old) × (doing ≡ None)
+  Does work p heard count old next.ClockEnd new doing hears =
+      ((core_of old).clock ≡ clock_end) × (new ≡ old) × (doing ≡ None)
   Does work p heard count old next.OutOfMemory new doing hears = ⊥
 
   -- the answer: if a poll found no memory for a message, that, and nothing is done
-  abbrev pub Answers : Bool → Meaning W → Pacing → Bool → ℕ → House W A g → Next → House W A g → Option ℕ → Bool → Type 0
-  Answers true work p heard count old answer new doing hears = (answer ≡ next.OutOfMemory) × (new ≡ old) × (doing ≡ None)
-  Answers false work p heard count old answer new doing hears = Does work p heard count old answer new doing hears
+  abbrev pub Answers : Bool → Meaning W → Pacing → Bool → ℕ → House W A g → Next → House W A g
+      → Option ℕ → Bool → Type 0
+  Answers true work p heard count old answer new doing hears =
+      (answer ≡ next.OutOfMemory) × (new ≡ old) × (doing ≡ None)
+  Answers false work p heard count old answer new doing hears =
+      Does work p heard count old answer new doing hears
 
-  -- The unit that was being done was paid for, which took so long. The ticks passed that are over, each server was
-  -- polled, and the host was told what it does next
-  pub record Paces (work : Meaning W) (took : ℕ) (p : Paced) (old : House W A g) (answer : Next) (new : House W A g) (q : Paced) : Type 0 where
+  -- The unit that was being done was paid for, which took so long. The ticks passed that are over,
+  -- each server was polled, and the host was told what it does next
+  pub record Paces (work : Meaning W) (took : ℕ) (p : Paced) (old : House W A g) (answer : Next)
+      (new : House W A g) (q : Paced) : Type 0 where
     pub between : House W A g
     pub out_of_memory : Bool
     pub prepares : Prepares work took p.doing p.pace old between q.pace q.taken out_of_memory
-    pub answers : Answers out_of_memory work q.pace p.listens q.taken between answer new q.doing q.listens
+    pub answers : Answers out_of_memory work q.pace p.listens q.taken between answer new q.doing
+        q.listens

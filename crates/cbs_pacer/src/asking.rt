@@ -21,7 +21,8 @@ use cbs_pace::{Counts, Pace, Rounding, Tick};
 use std::alloc::Allocator;
 
 impl Pacer {
-    /// Returns a pacer of a house whose clock stands at `now`. Its time begins at this reading.
+    /// Returns a pacer of a house whose clock stands at tick `now`. Its time begins at this
+    /// reading, in nanoseconds.
     pub fn begin(tick: Tick, rounding: Rounding, now: u64, reading: u64) -> Pacer
         ensures { paced_of result ≡ record {
           pace = pacing_begun tick rounding now reading;
@@ -46,24 +47,27 @@ impl Pacer {
         self.pace.counts()
     }
 
-    /// Returns how many messages were taken from the rings when the host was told last what it does next, at most one of
-    /// each server. Whoever waits for room in a ring may try again if it is not 0.
+    /// Returns how many messages the last polls took from the rings, 0 before the first. Whoever
+    /// waits for room in a ring may try again if it is not 0.
     pub fn taken(&self) -> u32
         ensures { result ≡ self.now.taken }
     {
         self.taken
     }
 
-    /// Takes a reading of the clock, and returns what the host does next. A unit that was being done ends with the
-    /// reading, and its server is charged the time since the last one. Then the ticks pass that are over while nobody is
-    /// ready, and each server is polled once. If somebody is ready and the tick of the unit has come, it is run.
+    /// Takes a reading of the clock in nanoseconds, and returns what the host does next.
+    ///
+    /// A unit that was being done ends with the reading, and its server is charged the time since
+    /// the last one. Then the ticks pass that are over, as long as nobody is ready, and each server
+    /// is polled once. If somebody is ready and the tick of its unit has come, the unit is run.
     pub fn next<W: Work, A: Allocator>(&mut self, house: &mut House<W, A>, reading: u64) -> Next
         ensures paces { Paces W.meaning (time_to reading self.old.pace)
             (paced_seen reading self.old) house.old result house.new (paced_of self.new) }
         ensures ahead { IsNotAhead self.old.pace (core_of house.old).clock
             → IsNotAhead self.new.pace (core_of house.new).clock }
         ensures timed { GoesOnInTime W.meaning (time_to reading self.old.pace)
-            (paced_seen reading self.old) (core_of house.old) (core_of house.new) (paced_of self.new) }
+            (paced_seen reading self.old) (core_of house.old)
+            (core_of house.new) (paced_of self.new) }
         ensures awake { (doing_of self.old) ≡ None
             → IsDue (pacing_seen reading self.old.pace) (core_of house.old).clock
             → ¬ AsksToSleep result }
@@ -72,9 +76,12 @@ impl Pacer {
         self.ask(house, took)
     }
 
-    /// Does what [`next`](Pacer::next) does, but charges the unit that was being done the time `took`, by whatever clock
-    /// the host took it, such as that of its thread. More than the time since the last reading is not charged. The rest
-    /// of that time is nobody's: the house's clock is behind by it.
+    /// Does what [`next`](Pacer::next) does, and returns the same. But the unit that was being done
+    /// is charged for `took` nanoseconds, by whatever clock the host measured them, as that of its
+    /// thread.
+    ///
+    /// More than the time since the last reading is not charged. The rest of that time is nobody's,
+    /// and the house's clock falls behind by it.
     pub fn next_measured<W: Work, A: Allocator>(
         &mut self,
         house: &mut House<W, A>,
@@ -86,7 +93,8 @@ impl Pacer {
         ensures ahead { IsNotAhead self.old.pace (core_of house.old).clock
             → IsNotAhead self.new.pace (core_of house.new).clock }
         ensures timed { GoesOnInTime W.meaning (min took (time_to reading self.old.pace))
-            (paced_seen reading self.old) (core_of house.old) (core_of house.new) (paced_of self.new) }
+            (paced_seen reading self.old) (core_of house.old)
+            (core_of house.new) (paced_of self.new) }
         ensures awake { (doing_of self.old) ≡ None
             → IsDue (pacing_seen reading self.old.pace) (core_of house.old).clock
             → ¬ AsksToSleep result }
@@ -95,8 +103,9 @@ impl Pacer {
         self.ask(house, took.min(over))
     }
 
-    /// Takes a reading of the clock, at which a unit that was being done ends, and charges its server the time since the
-    /// last reading. It is for a host that stops: [`next`](Pacer::next) does it, too.
+    /// Takes a reading of the clock in nanoseconds. A unit that was being done ends with it, and
+    /// its server is charged the time since the last reading. It is for a host that stops, since
+    /// [`next`](Pacer::next) does this, too.
     pub fn done<W: Work, A: Allocator>(&mut self, house: &mut House<W, A>, reading: u64)
         ensures pays { PaysUnit W.meaning (time_to reading self.old.pace) (doing_of self.old)
             (pacing_seen reading self.old.pace) house.old house.new self.new.pace }
@@ -106,7 +115,7 @@ impl Pacer {
         self.pay(house, took);
     }
 
-    /// Does what [`done`](Pacer::done) does, but charges the time `took`, as
+    /// Does what [`done`](Pacer::done) does, but charges for `took` nanoseconds, as
     /// [`next_measured`](Pacer::next_measured) does.
     pub fn done_measured<W: Work, A: Allocator>(
         &mut self,
@@ -123,7 +132,7 @@ impl Pacer {
         self.pay(house, took.min(over));
     }
 
-    /// Returns what the host does next. A unit that was being done took so long.
+    /// Returns what the host does next. A unit that was being done took `took` nanoseconds.
     fn ask<W: Work, A: Allocator>(&mut self, house: &mut House<W, A>, took: u64) -> Next
         ensures { Paces W.meaning took (paced_of self.old) house.old result house.new
             (paced_of self.new) }
@@ -137,7 +146,7 @@ impl Pacer {
         }
     }
 
-    /// Charges the server whose unit was being done what the unit took, if there was one.
+    /// Charges the server whose unit was being done, if one was, for the nanoseconds that it took.
     fn pay<W: Work, A: Allocator>(&mut self, house: &mut House<W, A>, took: u64)
         ensures pays { PaysUnit W.meaning took (doing_of self.old) self.old.pace house.old house.new
             self.new.pace }
@@ -164,8 +173,8 @@ impl Pacer {
         self.pace.note_behind(behind - passed);
     }
 
-    /// Charges the unit that was being done, lets the ticks pass that are over, and polls each server once. Returns
-    /// whether a poll found no memory for a message.
+    /// Returns whether a poll found no memory for a message. Before, it charges the unit that was
+    /// being done, lets the ticks pass that are over, and polls each server once.
     fn prepare<W: Work, A: Allocator>(&mut self, house: &mut House<W, A>, took: u64) -> bool
         ensures prepares { Prepares W.meaning took (doing_of self.old) self.old.pace house.old
             house.new self.new.pace self.new.taken result }
@@ -179,7 +188,7 @@ impl Pacer {
         polls.out_of_memory
     }
 
-    /// Runs a unit, if its tick has come. Somebody is ready.
+    /// Returns what the host does next if somebody is ready. Runs a unit if its tick has come.
     fn go_on<W: Work, A: Allocator>(&mut self, house: &mut House<W, A>) -> Next
         requires none { (doing_of self.old) ≡ None }
         requires ready { (M : History W) → Agrees W.meaning (core_of house.old) M
@@ -220,7 +229,7 @@ impl Pacer {
         self.does = true;
     }
 
-    /// Returns how the host rests. Nobody will be ready for `span` ticks.
+    /// Returns how the host rests if nobody will be ready for `span` ticks.
     fn rest<W: Work, A: Allocator>(&mut self, house: &House<W, A>, span: u64) -> Next
         requires none { (doing_of self.old) ≡ None }
         requires span { (M : History W) → Agrees W.meaning (core_of house.now) M
@@ -246,7 +255,8 @@ impl Pacer {
     }
 }
 
-/// Returns how many ticks pass, by the idle span, if nobody is ready, and by how many the clock is behind.
+/// Returns how many ticks pass, by the idle span, if nobody is ready, and by how many ticks the
+/// house's clock is behind.
 fn to_pass(span: Option<u64>, behind: u64) -> u64
     ensures { result ≡ ticks_to_pass span behind }
 {
@@ -256,7 +266,7 @@ fn to_pass(span: Option<u64>, behind: u64) -> u64
     }
 }
 
-/// Charges a server what its unit took.
+/// Charges a server for the nanoseconds that its unit took.
 fn pay_unit<W: Work, A: Allocator>(pace: &mut Pace, house: &mut House<W, A>, server: u16, took: u64)
     requires { server < 64 }
     ensures { PaysUnit W.meaning took (Some server) pace.old house.old house.new pace.new }
@@ -266,7 +276,8 @@ fn pay_unit<W: Work, A: Allocator>(pace: &mut Pace, house: &mut House<W, A>, ser
     pace.note_charge(charged);
 }
 
-/// Charges a server so many ticks, if it still runs. Returns how many it was charged: these, or none.
+/// Returns how many ticks a server was charged: `ticks` if it still runs and the house's clock can
+/// hold them, or none.
 fn charge_running<W: Work, A: Allocator>(house: &mut House<W, A>, server: u16, ticks: u64) -> u64
     ensures made { Made W.meaning house.old house.new (charge_steps server result) }
     ensures most { result ≤ ticks }

@@ -1,4 +1,7 @@
-//! A house in real time, by a clock that is read to it: what its host is to do next. No clock is read here, and nobody sleeps.
+//! A house in real time, by a clock that is read to it: what its host is to do next. No clock is
+//! read here, and nobody sleeps.
+//!
+//! Times and readings are in nanoseconds.
 #![tactic(auto)]
 
 mod asking;

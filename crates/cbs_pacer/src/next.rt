@@ -5,23 +5,27 @@ ghost use Rattle.cbs_pacer.specs.Paced.{ran_next};
 
 use cbs_core::Ran;
 
-/// What the host of a house does next. Then it reads its clock, and asks again.
+/// What the host of a house does next. Then the host reads its clock, and asks again.
 #[derive(Clone, Copy, Debug, PartialEq, Eq)]
 pub enum Next {
-    /// It does the unit of which this tells: the tick of the unit has come. The unit lasts until the next reading.
+    /// It does the unit of which this tells: the tick of the unit has come. The unit lasts until
+    /// the next reading.
     Do(Ran),
-    /// Somebody is ready, but the tick of his unit has not come: it sleeps until the clock shows this, in nanoseconds.
-    SleepUntil(u64),
-    /// Nobody is ready. From now on it listens for its bell, and asks again at once, lest a message came before.
-    Listen,
-    /// Nobody is ready, and no message came since it listens. It sleeps until the bell rings, but no longer than until the clock
+    /// Somebody is ready, but the tick of its unit has not come. The host sleeps until the clock
     /// shows this, in nanoseconds. `u64::MAX` is for no end.
+    SleepUntil(u64),
+    /// Nobody is ready. From now on the host listens for its bell, and asks again at once, lest a
+    /// message came before.
+    Listen,
+    /// Nobody is ready, the host listens, and the last polls took no message. The host sleeps until
+    /// the bell rings, but no longer than until the clock shows this, in nanoseconds. `u64::MAX` is
+    /// for no end.
     WaitUntil(u64),
-    /// Every server is closed, and every job is finished.
+    /// Every server is closed, and every job is finished. There is nothing more to do.
     Over,
-    /// The clock of the house is at its end.
+    /// The clock of the house is at its end: no unit can run any more.
     ClockEnd,
-    /// A poll found no memory for a message, which stays in its ring.
+    /// A poll found no memory for a message, which stays in its ring. Nothing was run.
     OutOfMemory,
 }
 

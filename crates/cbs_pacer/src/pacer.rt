@@ -4,7 +4,8 @@ ghost use Rattle.std.specs.Prelude.{◌<◌};
 
 use cbs_pace::Pace;
 
-/// The pace of a house, the server whose unit is being done, if there is one, and whether the host listens for its bell.
+/// What tells the host of a house what it does next. It knows the pace of the house, and the server
+/// whose unit is being done, if one is. It also knows whether the host listens for its bell.
 #[repr(C)]
 #[derive(Debug, Drop)]
 pub struct Pacer {

@@ -1,4 +1,3 @@
-use Rattle.std.proofs.Common.{◌≤◌, ◌+◌, arith}
 use Rattle.std.proofs.lemmas.Bool.{false≢true}
 use Rattle.cbs_clients.specs.Houses.{core_of}
 use Rattle.cbs_clients.proofs.Metered.{charge_granted}

@@ -1,4 +1,4 @@
-use Rattle.std.proofs.Common.{◌≤◌, ◌+◌, arith, ap, ◌∙◌}
+use Rattle.std.proofs.Common.{arith, ap, ◌∙◌}
 use Rattle.cbs_pace.specs.Paces.{pacing_with_charge}
 use Rattle.cbs_pacer.proofs.asking.pay_unit.Goals as goal
 

@@ -1,4 +1,4 @@
-use Rattle.std.proofs.Common.{◌≡◌, ◌<◌, ℕ, zero, suc, List, [], ◌∷◌, length, get_or, refl, arith}
+use Rattle.std.proofs.Common.{◌≡◌, ℕ, zero, suc, get_or, refl}
 use Rattle.std.specs.Prelude.{replicate}
 use Rattle.cbs_pace.proofs.pace.Pace.begin.Goals as goal
 

@@ -1,4 +1,4 @@
-use Rattle.std.proofs.Common.{◌≤◌, min, arith, ap, ◌∙◌}
+use Rattle.std.proofs.Common.{arith, ap, ◌∙◌}
 use Rattle.cbs_pace.specs.Paces.{Pacing, time_to}
 use Rattle.cbs_clients.specs.Houses.{core_of}
 use Rattle.cbs_pacer.proofs.Ahead.{paces_ahead, paces_awake, seen_ahead, seen_lawful}
