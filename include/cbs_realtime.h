@@ -6,12 +6,12 @@
  *     struct cbs_realtime realtime = cbs_realtime_of(1000000, &bell, work, context);
  *     uint32_t status = cbs_realtime_run(&realtime, &house);         returns when all is over
  *
- * It is a loop over cbs_next of cbs.h, which decides all that is decided. In each tick it polls each
- * server once, and does at most one unit. A unit that takes longer is charged to its server, never
- * rounded down. While nobody is ready ticks pass, and the loop sleeps until the next deadline of
- * somebody who waits, or until a client rings; so throttled servers wait in real time. The house's
- * clock is ahead of the real one by at most a tick, and no unit begins before its tick. If it is late,
- * units follow each other at once.
+ * It is a loop over cbs_next of cbs.h, which decides. In each tick it polls each server once, and
+ * does at most one unit. A unit that takes longer is charged to its server, never rounded down.
+ * While nobody is ready ticks pass, and the loop sleeps until the next deadline of somebody who
+ * waits, or until a client rings; so throttled servers wait in real time. The house's clock is
+ * ahead of the real one by at most a tick, and no unit begins before its tick. If it is late, units
+ * follow each other at once.
  *
  * A program that wants to look at the house meanwhile calls cbs_realtime_step in a loop of its own.
  *
@@ -78,6 +78,11 @@ static inline void cbs_bell_stop(struct cbs_bell *bell) {
     cbs_bell_ring(bell);
 }
 
+/* Returns whether the house was told to stop, and forgets it. */
+static inline bool cbs_bell_stopped(struct cbs_bell *bell) {
+    return __atomic_exchange_n(&bell->stop, false, __ATOMIC_SEQ_CST);
+}
+
 /* Listens from now on. Who then sees nothing to do may wait: no ring is missed. */
 static inline void cbs_bell_listen(struct cbs_bell *bell) {
     pthread_mutex_lock(&bell->lock);
@@ -108,7 +113,8 @@ static inline void cbs_bell_wait(struct cbs_bell *bell, uint64_t until) {
 
 /* ---- The clocks, in nanoseconds ---- */
 
-/* That of the ticks is monotonic. Tests declare these three themselves, and define CBS_CLOCK_OF_ITS_OWN. */
+/* That of the ticks is monotonic. Tests declare these three themselves, and define
+ * CBS_CLOCK_OF_ITS_OWN. */
 #ifndef CBS_CLOCK_OF_ITS_OWN
 static inline uint64_t cbs_clock_now(void) {
     struct timespec at;
@@ -127,8 +133,8 @@ static inline void cbs_clock_wait(struct cbs_bell *bell, uint64_t until) {
 }
 #endif
 
-/* The processor time of the calling thread, by which units are charged if processor_time is true. Tests
- * declare this one themselves, and define CBS_WORKED_OF_ITS_OWN. */
+/* The processor time of the calling thread, by which units are charged if processor_time is true.
+ * Whoever charges by another clock declares this one, and defines CBS_WORKED_OF_ITS_OWN. */
 #ifndef CBS_WORKED_OF_ITS_OWN
 static inline uint64_t cbs_clock_worked(void) {
     struct timespec at;
@@ -145,20 +151,20 @@ struct cbs_realtime {
     struct cbs_bell *bell;
     void (*work)(void *context, const struct cbs_unit *unit); /* does a unit, by the serving thread */
     void *context;                                            /* given to work */
-    /* True: what is less than a tick is carried to the server's next unit. False: it is rounded up. */
-    bool carry;
-    /* False: a unit is charged for the time from the reading that told it to the next reading. So it
+    bool carry; /* true: less than a tick is carried to the server's next unit; else rounded up */
+    /* False: a unit is charged for the time from the question that told it to the next one. So it
      * pays for whatever took the processor away meanwhile, too.
-     * True: a unit is charged for the processor time that work took of the serving thread, and each
-     * unit pays for itself alone. The house's clock falls behind by the rest of the time, which
-     * counts.behind shows, until idle ticks make up for it. What is promised in ticks is kept, and
-     * comes later by as much. Work that sleeps, or lets other threads work, does not pay for that. */
+     * True: a unit is charged for the processor time that the serving thread took in that time, so
+     * each unit pays for itself alone. The house's clock falls behind by the rest of the time,
+     * which counts.behind shows, until idle ticks make up for it. What is promised in ticks is
+     * kept, and comes later by as much. Work that sleeps, or waits for other threads, does not pay
+     * for that. */
     bool processor_time;
     struct cbs_counts counts; /* for the serving thread to read at any time */
     bool over;                /* whether every server is closed and every job is finished */
     /* The header's own: */
     bool begun;
-    uint64_t worked; /* the processor time of the last unit */
+    uint64_t worked; /* the processor time, as it was read last */
     struct cbs_pacer pacer;
 };
 
@@ -175,6 +181,13 @@ static inline struct cbs_realtime cbs_realtime_of(
     return self;
 }
 
+/* Returns the processor time since this was called last. */
+static inline uint64_t cbs_realtime_took(struct cbs_realtime *self) {
+    uint64_t before = self->worked;
+    self->worked = cbs_clock_worked();
+    return self->worked - before;
+}
+
 /* Asks what is next. The unit before is charged. */
 static inline uint32_t cbs_realtime_ask(struct cbs_realtime *self, struct cbs_handle *house,
                                         struct cbs_next *next) {
@@ -186,7 +199,7 @@ static inline uint32_t cbs_realtime_ask(struct cbs_realtime *self, struct cbs_ha
     }
     if (status == CBS_OK) {
         status = self->processor_time
-                     ? cbs_next_measured(house, &self->pacer, now, self->worked, next)
+                     ? cbs_next_measured(house, &self->pacer, now, cbs_realtime_took(self), next)
                      : cbs_next(house, &self->pacer, now, next);
         cbs_counts(&self->pacer, &self->counts);
     }
@@ -197,21 +210,19 @@ static inline uint32_t cbs_realtime_ask(struct cbs_realtime *self, struct cbs_ha
 static inline uint32_t cbs_realtime_done(struct cbs_realtime *self, struct cbs_handle *house) {
     uint64_t now = cbs_clock_now();
     uint32_t status = self->processor_time
-                          ? cbs_done_measured(house, &self->pacer, now, self->worked)
+                          ? cbs_done_measured(house, &self->pacer, now, cbs_realtime_took(self))
                           : cbs_done(house, &self->pacer, now);
     cbs_counts(&self->pacer, &self->counts);
     return status;
 }
 
-/* Does a unit. In C++ one that throws is charged and counted at once, and the exception passed on. */
+/* Does a unit. In C++ one that throws is charged and counted at once, and then throws on. */
 static inline void cbs_realtime_work(struct cbs_realtime *self, struct cbs_handle *house,
                                      const struct cbs_unit *unit) {
-    uint64_t began = self->processor_time ? cbs_clock_worked() : 0;
 #if defined(__cplusplus) && defined(__cpp_exceptions)
     try {
         self->work(self->context, unit);
     } catch (...) {
-        self->worked = self->processor_time ? cbs_clock_worked() - began : 0;
         cbs_realtime_done(self, house);
         throw;
     }
@@ -219,13 +230,12 @@ static inline void cbs_realtime_work(struct cbs_realtime *self, struct cbs_handl
     (void)house;
     self->work(self->context, unit);
 #endif
-    self->worked = self->processor_time ? cbs_clock_worked() - began : 0;
 }
 
-/* Asks one question, and does what follows from it: a unit, a sleep, or that all is over (over is true
- * then). Between two steps the house may be looked at, sent to and told to stop; whoever calls this in
- * a loop looks himself whether it was told so. No step sleeps longer than cbs_clock_wait does.
- * Refuses as cbs_realtime_run does, and throws what work throws. It may be called again. */
+/* Asks one question, and does what follows from it: a unit, a sleep, or that all is over (over is
+ * true then). Between two steps the program may look at the house, at cbs_bell_stopped, and at
+ * counts. If it asks no more for now, cbs_realtime_done charges the last unit. Refuses and throws
+ * as cbs_realtime_run does. */
 static inline uint32_t cbs_realtime_step(struct cbs_realtime *self, struct cbs_handle *house) {
     struct cbs_next next;
     uint32_t status = cbs_realtime_ask(self, house, &next);
@@ -245,15 +255,15 @@ static inline uint32_t cbs_realtime_step(struct cbs_realtime *self, struct cbs_h
     return CBS_OK;
 }
 
-/* Serves until every client has ended or was freed and all jobs are finished (over is true then), or
- * until it is told to stop. Refuses by CBS_HOUSE_OUT_OF_MEMORY, CBS_HOUSE_CLOCK_END, and as cbs_now
- * does. In C++ it throws what work throws. It may be called again, for the same house: it goes on at
- * the same time, and nothing is lost. */
+/* Serves until every client has ended or was freed and all jobs are finished (over is true then),
+ * or until it is told to stop. Refuses by CBS_HOUSE_OUT_OF_MEMORY, CBS_HOUSE_CLOCK_END, and as
+ * cbs_now does. In C++ it throws what work throws. It may be called again, for the same house: it
+ * goes on at the same time, and nothing is lost. */
 static inline uint32_t cbs_realtime_run(struct cbs_realtime *self, struct cbs_handle *house) {
     uint32_t status = CBS_OK;
     self->over = false;
     while (status == CBS_OK && !self->over) {
-        if (__atomic_exchange_n(&self->bell->stop, false, __ATOMIC_SEQ_CST)) {
+        if (cbs_bell_stopped(self->bell)) {
             return cbs_realtime_done(self, house);
         }
         status = cbs_realtime_step(self, house);
