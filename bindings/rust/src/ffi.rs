@@ -206,7 +206,7 @@ fn answered<T>(status: u32, value: T) -> Result<T, Status> {
 
 // SAFETY of the calls below: each handle is not open or owned by the `Handle` that is borrowed, which is in no other call, since
 // it is not `Sync` and no call runs code of the program; slices give a pointer that is not null, and their length; each out
-// parameter is a local of its own; a pacer is what `cbs_pace` wrote, is borrowed, and overlaps nothing.
+// parameter is a local of its own; a pacer is what `cbs_pace` wrote, and is borrowed alone.
 
 /// Ends the program if the library that was linked is not of the version that this crate was written for.
 fn must_fit() {

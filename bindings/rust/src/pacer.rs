@@ -71,13 +71,14 @@ impl fmt::Debug for Pacer {
 pub enum Next<'h, T = u64> {
     /// It does this unit, whose tick has come.
     Do(Unit<'h, T>),
-    /// It sleeps until its clock shows this. Somebody is ready, and the tick of the unit comes then.
+    /// It sleeps until its clock shows this. Somebody is ready, and the tick of the unit comes
+    /// then.
     SleepUntil(Duration),
     /// It asks again at once, lest a message came before. Nobody is ready, and from now on the
     /// house listens for its bell.
     Listen,
-    /// It [waits](crate::Bell::wait) for the house's [bell](crate::House::bell), and until its clock
-    /// shows this at most, if there is an end.
+    /// It [waits](crate::Bell::wait) for the house's [bell](crate::House::bell), and until its
+    /// clock shows this at most, if there is an end.
     WaitUntil(Option<Duration>),
     /// Nothing: every client has ended or is gone, and every job is finished.
     Over,

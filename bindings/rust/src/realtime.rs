@@ -35,8 +35,8 @@ pub trait Clock {
     /// Waits until that time.
     fn sleep_until(&mut self, time: Duration);
 
-    /// Waits until the bell rings ([`Bell::wait`]), and until that time at most, if there is one. It
-    /// may come back sooner.
+    /// Waits until the bell rings ([`Bell::wait`]), and until that time at most, if there is one.
+    /// It may come back sooner.
     fn wait(&mut self, bell: &Bell, until: Option<Duration>);
 
     /// Returns how much the serving thread has worked since some moment, by the measure that units
@@ -44,10 +44,10 @@ pub trait Clock {
     ///
     /// By default it is `now`: a unit is charged for the time from the question that told it to the
     /// next one, and pays for whatever took the processor away meanwhile, too. With the thread's
-    /// processor time (`CLOCK_THREAD_CPUTIME_ID`) each unit pays for itself alone. The house's clock
-    /// falls behind by the rest of the time, which [`Counts::behind`] shows, until idle ticks make
-    /// up for it. What is promised in ticks is kept, and comes later by as much. More than the time
-    /// by `now` is not charged.
+    /// processor time (`CLOCK_THREAD_CPUTIME_ID`) each unit pays for itself alone. The house's
+    /// clock falls behind by the rest of the time, which [`Counts::behind`] shows, until idle ticks
+    /// make up for it. What is promised in ticks is kept, and comes later by as much. More than the
+    /// time by `now` is not charged.
     fn worked(&mut self) -> Option<Duration> {
         None
     }
@@ -81,9 +81,9 @@ impl Clock for Monotonic {
 ///
 /// In each tick it takes messages, and does at most one unit: measured, and charged if it took
 /// longer. While nobody is ready ticks pass, and it sleeps until the next deadline of somebody who
-/// waits, or until a send. So throttled servers wait in real time. The house's clock is ahead of the
-/// real one by at most a tick, and no unit begins before its tick. If it has fallen behind, units
-/// follow each other at once.
+/// waits, or until a send. So throttled servers wait in real time. The house's clock is ahead of
+/// the real one by at most a tick, and no unit begins before its tick. If it has fallen behind,
+/// units follow each other at once.
 ///
 /// It is a loop over [`House::next`].
 #[derive(Debug)]
@@ -143,8 +143,8 @@ impl<'h, T, C: Clock> Realtime<'h, T, C> {
     ///
     /// # Panics
     ///
-    /// If `work` panics. The unit is charged and counted at once, and the panic is passed on. Nothing
-    /// else is lost: it may be called again.
+    /// If `work` panics. The unit is charged and counted at once, and the panic is passed on.
+    /// Nothing else is lost: it may be called again.
     pub fn run(&mut self, mut work: impl FnMut(Unit<'_, T>)) -> Result<Ended, RunError> {
         loop {
             if let Some(ended) = self.step(&mut work)? {
@@ -158,9 +158,9 @@ impl<'h, T, C: Clock> Realtime<'h, T, C> {
     ///
     /// Between two steps the house can be looked at: its views, charges and promises, and the
     /// [counts](Realtime::counts). A unit ends, and is charged, at the next step. If there is none
-    /// for now, call [`done`](Realtime::done). A step sleeps no longer than until the next tick of a
-    /// ready server, the next deadline of one that waits, a send or a stop. A [`Clock`] that comes
-    /// back sooner from [`wait`](Clock::wait) makes that shorter.
+    /// for now, call [`done`](Realtime::done). A step sleeps no longer than until the next tick of
+    /// a ready server, the next deadline of one that waits, a send or a stop. A [`Clock`] that
+    /// comes back sooner from [`wait`](Clock::wait) makes that shorter.
     ///
     /// ```
     /// use cbs::realtime::Realtime;
