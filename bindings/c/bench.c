@@ -22,7 +22,8 @@
 
 /* Those up to JOB are timed. */
 enum {
-    NOW, RUN_IDLE, RUN_UNIT, TURN_UNIT, POLL_NOTHING, IDLE_SPAN, NEXT_IDLE, NEXT_UNIT, JOB, TURN_IDLE, CASES
+    NOW, RUN_IDLE, RUN_UNIT, TURN_UNIT, POLL_NOTHING, IDLE_SPAN, NEXT_IDLE, NEXT_UNIT, JOB,
+    TURN_IDLE, CASES
 };
 static const char *const names[CASES] = {"now", "run, idle", "run, a unit", "turn, a unit", "poll, nothing", "idle_span",
                                          "next, nobody ready", "next, a unit",

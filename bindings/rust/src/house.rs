@@ -310,7 +310,10 @@ impl<T> House<T> {
     pub fn pace(&self, tick: Duration, rounding: Rounding, time: Duration) -> Pacer {
         let carry = rounding == Rounding::Carry;
         let pacer = ffi::pace(&self.handle, nanos(tick), carry, nanos(time));
-        Pacer(certain(pacer))
+        Pacer {
+            own: certain(pacer),
+            taken: 0,
+        }
     }
 
     /// Takes a reading of its host's clock, and returns what the host does next. In this order:
@@ -319,10 +322,13 @@ impl<T> House<T> {
     ///   reading. It is not charged if the program has run, advanced or charged the house by hand
     ///   since.
     /// - If nobody is ready the ticks pass that are over.
-    /// - Each server is polled once. Then [`promised`](House::promised) may be asked.
+    /// - Each server is polled once. [`Pacer::taken`] tells how many messages came.
     /// - If somebody is ready and the tick of the unit has come, the unit is run.
     ///
-    /// It never waits and reads no clock. A step back of the clock counts as no time.
+    /// So what is [`promised`](House::promised) of a job can be asked right after the question that
+    /// took it, once its unit is done. This never waits and reads no clock. A step back of the
+    /// clock counts as no time.
+    ///
     /// [`Realtime`](crate::realtime::Realtime) is a loop over it. One of one's own:
     ///
     /// ```
@@ -372,7 +378,8 @@ impl<T> House<T> {
         took: Option<Duration>,
     ) -> Next<'_, T> {
         let (time, took) = (nanos(time), took.map(nanos));
-        let next = certain(ffi::next(&mut self.handle, &mut pacer.0, time, took));
+        let next = certain(ffi::next(&mut self.handle, &mut pacer.own, time, took));
+        pacer.taken = next.taken as usize; // at most one of each server
         if next.taken > 0 {
             self.ring_senders();
         }
@@ -406,7 +413,7 @@ impl<T> House<T> {
 
     pub(crate) fn end(&mut self, pacer: &mut Pacer, time: Duration, took: Option<Duration>) {
         let (time, took) = (nanos(time), took.map(nanos));
-        certain(ffi::done(&mut self.handle, &mut pacer.0, time, took));
+        certain(ffi::done(&mut self.handle, &mut pacer.own, time, took));
     }
 
     /// Takes the next message of one server, if there is one and room for it. What is not taken stays in its ring.

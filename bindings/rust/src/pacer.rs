@@ -39,12 +39,21 @@ pub struct Counts {
 /// The pace of a house in real time: which of its ticks have come, and what each of its servers
 /// carries. [`House::pace`](crate::House::pace) begins it, and [`House::next`](crate::House::next)
 /// asks it.
-pub struct Pacer(pub(crate) ffi::Pacer);
+pub struct Pacer {
+    pub(crate) own: ffi::Pacer,
+    pub(crate) taken: usize,
+}
 
 impl Pacer {
+    /// Returns how many messages the last question took, ends included: at most one of each server.
+    #[must_use]
+    pub fn taken(&self) -> usize {
+        self.taken
+    }
+
     /// Returns what was seen so far. A unit counts from when it ends.
     pub fn counts(&self) -> Counts {
-        let counts = ffi::counts(&self.0);
+        let counts = ffi::counts(&self.own);
         Counts {
             units: counts.units,
             overruns: counts.overruns,

@@ -129,6 +129,13 @@ impl<'h, T, C: Clock> Realtime<'h, T, C> {
         self.house
     }
 
+    /// Returns how many messages the last step took from the rings, ends included. What is
+    /// [promised](House::promised) of a job can be asked after the step that took it.
+    #[must_use]
+    pub fn taken(&self) -> usize {
+        self.pacer.taken()
+    }
+
     /// Returns what was seen so far. A unit counts from when it ends, at the next question.
     pub fn counts(&self) -> Counts {
         self.pacer.counts()

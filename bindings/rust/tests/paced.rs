@@ -125,7 +125,9 @@ fn a_promise_follows_the_question() {
     client.send("wash", 3).unwrap();
     assert_eq!(house.promised(0).unwrap(), None);
     let _ = house.next(&mut pacer, micros(0));
-    assert_eq!(house.promised(0).unwrap(), Some(30));
+    assert_eq!((pacer.taken(), house.promised(0).unwrap()), (1, Some(30)));
+    let _ = house.next(&mut pacer, micros(100));
+    assert_eq!((pacer.taken(), house.promised(0).unwrap()), (0, Some(30)));
 }
 
 // A sender who waits for room is woken by the question that makes room.
@@ -226,6 +228,7 @@ fn a_house_is_sent_to_and_stopped_between_steps() {
         fake.now.set(micros(2500));
     });
     assert_eq!((step, done), (Ok(None), vec!["wash"]));
+    assert_eq!(realtime.taken(), 1);
     assert_eq!(realtime.counts().units, 0); // it ends with the next question
     stopper.stop();
     let stopped = realtime.step(|_unit| unreachable!());
