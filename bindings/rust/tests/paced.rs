@@ -6,7 +6,7 @@ use cbs::{Bell, Client, Ended, House, Mode, Plan, SendError};
 use std::cell::Cell;
 use std::rc::Rc;
 use std::thread;
-use std::time::Duration;
+use std::time::{Duration, Instant};
 
 const TICK: Duration = Duration::from_micros(1000);
 
@@ -147,6 +147,28 @@ fn a_question_that_takes_messages_wakes_senders() {
         thread::yield_now();
     }
     assert_eq!((sender.join().unwrap(), pacer.counts().units), (1, 2));
+}
+
+// Since it was told to listen the house misses no ring, though it is not waiting yet: of a send, and
+// of who tells it to stop.
+#[test]
+fn no_ring_is_missed_after_listen() {
+    let (mut house, mut client) = open(1, 1, Mode::Soft);
+    let stopper = house.stopper();
+    let mut pacer = begin(&house);
+    let rings: [&mut dyn FnMut(); 2] = [
+        &mut || assert_eq!(client.send("wash", 1).unwrap(), 0),
+        &mut || stopper.stop(),
+    ];
+    for ring in rings {
+        while seen(house.next(&mut pacer, micros(0))) != Seen::Listen {}
+        ring();
+        let began = Instant::now();
+        house.bell().wait(Some(Duration::from_secs(20)));
+        assert!(began.elapsed() < Duration::from_secs(10));
+        pacer = begin(&house);
+    }
+    assert!(house.is_told_to_stop() && !house.is_told_to_stop());
 }
 
 /// A clock that stands unless somebody waits or works. Each wait ends when the house is looked at.
