@@ -309,8 +309,8 @@ uint32_t cbs_promised(struct cbs_handle *house, uint16_t server, uint64_t *low, 
  *
  * The host reads a clock, asks what is next, does it, reads the clock, and asks again:
  *
- *     cbs_pace(house, 1000000, false, clock(), &pacer);                 a tick is a millisecond
- *     while (cbs_next(house, &pacer, clock(), &next) == CBS_OK && next.kind < CBS_NEXT_OVER) {
+ *     cbs_pace(house, 1000000, false, reading(), &pacer);             a tick is a millisecond
+ *     while (cbs_next(house, &pacer, reading(), &next) == CBS_OK && next.kind < CBS_NEXT_OVER) {
  *         do what next.kind says
  *     }
  *
@@ -329,7 +329,7 @@ uint32_t cbs_pace(struct cbs_handle *house, uint64_t tick, bool carry, uint64_t 
 /* Takes a reading of the host's clock, and writes what the host does next. In this order:
  * - The unit that was being done ends. Its server is charged for the time since the last reading.
  *   A charge that would pass the clock's end is cut to what is left. There is none if the program
- *   has run, advanced or charged the house by hand since the unit was told.
+ *   has run or advanced the house by hand since the unit was told.
  * - If nobody is ready the ticks pass that are over.
  * - Each server is polled once. `taken` tells how many messages came. cbs_promised may be asked
  *   then.

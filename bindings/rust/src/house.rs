@@ -319,8 +319,7 @@ impl<T> House<T> {
     /// Takes a reading of its host's clock, and returns what the host does next. In this order:
     ///
     /// - The unit that was being done ends. Its server is charged for the time since the last
-    ///   reading. It is not charged if the program has run, advanced or charged the house by hand
-    ///   since.
+    ///   reading, unless the program has run or advanced the house by hand since.
     /// - If nobody is ready the ticks pass that are over.
     /// - Each server is polled once. [`Pacer::taken`] tells how many messages came.
     /// - If somebody is ready and the tick of the unit has come, the unit is run.
