@@ -146,7 +146,7 @@ struct cbs_next {
  * fields are the library's, neither read nor written. It is plain data: it may be moved, and
  * nothing is freed. */
 struct cbs_pacer {
-    uint64_t own[77];
+    uint64_t own[76];
 };
 
 /* What a pacer has seen. Times are in nanoseconds. No number passes UINT64_MAX. */

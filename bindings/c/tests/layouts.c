@@ -47,7 +47,7 @@ static void layouts(void) {
 /* Of real time. */
 static void layouts_of_pacing(void) {
     CHECK(sizeof(struct cbs_next) == 40 && sizeof(struct cbs_counts) == 48);
-    CHECK(sizeof(struct cbs_pacer) == 616 && cbs_pacer_size() == 616);
+    CHECK(sizeof(struct cbs_pacer) == 608 && cbs_pacer_size() == 608);
     CHECK(offsetof(struct guarded_next, it) == 8 && offsetof(struct guarded_pacer, it) == 8);
     CHECK(offsetof(struct guarded_counts, it) == 8);
     FIELD(cbs_next, kind, 0, 4);

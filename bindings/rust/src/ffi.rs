@@ -130,7 +130,7 @@ pub(crate) struct Next {
 /// `struct cbs_pacer`: plain data, what `cbs_pace` wrote.
 #[repr(C)]
 pub(crate) struct Pacer {
-    own: [u64; 77],
+    own: [u64; 76],
 }
 
 /// `struct cbs_counts`.
@@ -327,7 +327,7 @@ pub(crate) fn promised(house: &Handle, server: u16) -> Result<(u64, u64), Status
 }
 
 pub(crate) fn pace(house: &Handle, tick: u64, carry: bool, time: u64) -> Result<Pacer, Status> {
-    let mut pacer = Pacer { own: [0; 77] };
+    let mut pacer = Pacer { own: [0; 76] };
     let status = unsafe { cbs_pace(house.0.get(), tick, carry, time, &mut pacer) };
     answered(status, pacer)
 }
@@ -419,7 +419,7 @@ mod tests {
         assert_eq!(size_of::<View>(), 48);
         assert_eq!(size_of::<Next>(), 40);
         assert_eq!(size_of::<Counts>(), 48);
-        assert_eq!(size_of::<Pacer>(), 616);
+        assert_eq!(size_of::<Pacer>(), 608);
         assert_eq!(unsafe { cbs_pacer_size() }, size_of::<Pacer>());
     }
 }
