@@ -5,7 +5,8 @@
  * many units the job has. cbs_run and cbs_turn tell which unit of which job is next, and the program does it.
  * A unit takes one tick of the house's clock; nothing is measured, nothing is interrupted. A program whose unit took
  * longer charges its server the ticks beyond the first (cbs_charge), so that a unit takes no other server's share.
- * cbs_realtime.h, beside this header, does so: it serves a house in real time.
+ * In real time a pacer does so (cbs_next), by the readings of the program's clock. cbs_realtime.h,
+ * beside this header, is a loop over it: it serves a house in real time.
  *
  *     struct cbs_server servers[2] = {{2, 5, CBS_SOFT}, {1, 10, CBS_THROTTLED}};
  *     struct cbs_handle house = CBS_HANDLE_INIT, clients[2] = {CBS_HANDLE_INIT, CBS_HANDLE_INIT};
@@ -26,7 +27,8 @@
  * WHAT HOLDS OF EVERY CALL. It returns; it never blocks, never aborts, and calls nothing but the heap. Each status is 0
  * or names why it refused; a call that refuses changes nothing, and writes nothing to its out parameters. A handle that
  * is not open is refused by CBS_CALL_NOT_OPEN, and a client's in the place of a house's, or the other way round, by
- * CBS_CALL_OTHER_KIND. Memory is taken by cbs_open, and by cbs_poll and cbs_turn when they take a job; by no other.
+ * CBS_CALL_OTHER_KIND. Memory is taken by cbs_open, and by cbs_poll, cbs_turn, cbs_next and
+ * cbs_next_measured when they take a job; by no other.
  */
 #ifndef CBS_H
 #define CBS_H
@@ -35,7 +37,8 @@
 #include <stddef.h>
 #include <stdint.h>
 
-/* cbs_turn and cbs_view name a struct and a call each, so C++ says struct for the first, as C does. g++ -Wshadow would warn. */
+/* cbs_turn, cbs_view, cbs_next and cbs_counts name a struct and a call each, so C++ says struct for
+ * the first, as C does. g++ -Wshadow would warn. */
 #ifdef __cplusplus
 #ifdef __GNUC__
 #pragma GCC diagnostic push
@@ -118,6 +121,42 @@ struct cbs_turn {
     struct cbs_unit ran;  /* the unit that is to be done now */
     bool out_of_memory;   /* whether there was no memory for some job, which stays in its ring */
     bool over;            /* whether every server is closed and no job is held: all is over, after the unit that is to be done now */
+};
+
+/* What the host of a house does next: the kinds of struct cbs_next. */
+enum {
+    CBS_NEXT_UNIT = 0,      /* it does the unit, whose tick has come */
+    CBS_NEXT_SLEEP = 1,     /* it sleeps until its clock shows `until`: the tick of a unit */
+    CBS_NEXT_LISTEN = 2,    /* it listens for its bell, and asks at once: a message may have come */
+    CBS_NEXT_WAIT = 3,      /* it sleeps until its bell rings, or its clock shows `until` */
+    CBS_NEXT_OVER = 4,      /* nothing: every server is closed, and every job is finished */
+    CBS_NEXT_CLOCK_END = 5, /* nothing: the clock of the house stands at its end, 10^12 */
+    CBS_NEXT_NO_MEMORY = 6  /* nothing: there was no memory for a job, which stays in its ring */
+};
+
+/* What the host of a house does next. Then it reads its clock, and asks again. */
+struct cbs_next {
+    uint32_t kind;
+    uint32_t taken;       /* how many messages this question took from rings, ends included */
+    uint64_t until;       /* of CBS_NEXT_SLEEP and CBS_NEXT_WAIT alone; UINT64_MAX for no end */
+    struct cbs_unit unit; /* of CBS_NEXT_UNIT alone */
+};
+
+/* The pace of a house: what cbs_pace wrote, or all bytes 0, whose tick is a nanosecond. The
+ * fields are the library's, neither read nor written. It is plain data: it may be moved, and
+ * nothing is freed. */
+struct cbs_pacer {
+    uint64_t own[76];
+};
+
+/* What a pacer has seen. Times are in nanoseconds. No number passes UINT64_MAX. */
+struct cbs_counts {
+    uint64_t units;       /* how many units were done */
+    uint64_t overruns;    /* how many of them took longer than a tick */
+    uint64_t longest;     /* the longest unit */
+    uint64_t charged;     /* how many ticks were charged for overruns */
+    uint64_t behind;      /* how many whole ticks the house is behind the clock, as last seen */
+    uint64_t most_behind; /* the most that this was */
 };
 
 /* What a poll did. */
@@ -265,6 +304,60 @@ uint32_t cbs_view(struct cbs_handle *house, uint16_t server, struct cbs_view *ou
  * that the server is charged after the call, and by the most that each other server was charged for one unit, added up.
  * Both halves are UINT64_MAX if nothing is unfinished. Refuses by CBS_HOUSE_NO_SUCH_SERVER. */
 uint32_t cbs_promised(struct cbs_handle *house, uint16_t server, uint64_t *low, uint64_t *high);
+
+/* ---- Of the house in real time: by the serving thread, too ----
+ *
+ * The host reads a clock, asks what is next, does it, reads the clock, and asks again:
+ *
+ *     cbs_pace(house, 1000000, false, reading(), &pacer);             a tick is a millisecond
+ *     while (cbs_next(house, &pacer, reading(), &next) == CBS_OK && next.kind < CBS_NEXT_OVER) {
+ *         do what next.kind says
+ *     }
+ *
+ * A unit lasts from the question that told it to the next call of cbs_next or cbs_done. Times and
+ * readings are in nanoseconds, of any clock. A step back of it counts as no time. No call here
+ * reads a clock, and none sleeps. No unit begins before its tick, so the house is ahead of that
+ * clock by at most a tick. If the house is behind, units follow each other at once. */
+
+/* Begins the time of a house, at this reading of the host's clock, and writes its pacer. A tick
+ * is as long as `tick` says, and 0 counts as 1. What a unit takes beyond a tick is rounded up to
+ * whole ticks and charged. If `carry`, what is less than a tick is carried to the server's next
+ * unit. */
+uint32_t cbs_pace(struct cbs_handle *house, uint64_t tick, bool carry, uint64_t time,
+                  struct cbs_pacer *pacer);
+
+/* Takes a reading of the host's clock, and writes what the host does next. In this order:
+ * - The unit that was being done ends. Its server is charged for the time since the last reading.
+ *   A charge that would pass the clock's end is cut to what is left. There is none if the program
+ *   has run or advanced the house by hand since the unit was told.
+ * - If nobody is ready the ticks pass that are over.
+ * - Each server is polled once. `taken` tells how many messages came. cbs_promised may be asked
+ *   then.
+ * - If somebody is ready and the tick of the unit has come, the unit is run.
+ * That all is over, the clock's end and a lack of memory are kinds: the status is CBS_OK. */
+uint32_t cbs_next(struct cbs_handle *house, struct cbs_pacer *pacer, uint64_t time,
+                  struct cbs_next *next);
+
+/* Does what cbs_next does, but charges the unit that was being done the time `took`, by whatever
+ * clock the host took it. More than the time since the last reading is not charged. What is not
+ * charged of that time is nobody's, and the house falls behind by it. */
+uint32_t cbs_next_measured(struct cbs_handle *house, struct cbs_pacer *pacer, uint64_t time,
+                           uint64_t took, struct cbs_next *next);
+
+/* Ends the unit that was being done, at this reading, and charges it as cbs_next does. It is for
+ * a host that stops asking, for now or for ever. If no unit was being done, it takes the reading
+ * alone. */
+uint32_t cbs_done(struct cbs_handle *house, struct cbs_pacer *pacer, uint64_t time);
+
+/* Does what cbs_done does, but charges the time `took`, as cbs_next_measured does. */
+uint32_t cbs_done_measured(struct cbs_handle *house, struct cbs_pacer *pacer, uint64_t time,
+                           uint64_t took);
+
+/* Writes what a pacer has seen so far. A unit counts from when it ends. */
+void cbs_counts(const struct cbs_pacer *pacer, struct cbs_counts *counts);
+
+/* Returns sizeof(struct cbs_pacer), as the library has it. */
+size_t cbs_pacer_size(void);
 
 /* ---- Of a client: by one thread at a time, beside calls on the house and on other clients ---- */
 

@@ -6,10 +6,14 @@
  *     struct cbs_realtime realtime = cbs_realtime_of(1000000, &bell, work, context);
  *     uint32_t status = cbs_realtime_run(&realtime, &house);         returns when all is over
  *
- * In each tick the loop polls each server once, and does at most one unit. A unit that takes longer is charged to its server,
- * never rounded down. While nobody is ready ticks pass, and the loop sleeps until the next deadline of somebody who waits, or
- * until a client rings; so throttled servers wait in real time. The house's clock is ahead of the real one by at most a
- * tick, and no unit begins before its tick. If it is late, ticks follow each other at once.
+ * It is a loop over cbs_next of cbs.h, which decides. In each tick it polls each server once, and
+ * does at most one unit. A unit that takes longer is charged to its server, never rounded down.
+ * While nobody is ready ticks pass, and the loop sleeps until the next deadline of somebody who
+ * waits, or until a client rings; so throttled servers wait in real time. The house's clock is
+ * ahead of the real one by at most a tick, and no unit begins before its tick. If it is late, units
+ * follow each other at once.
+ *
+ * A program that wants to look at the house meanwhile calls cbs_realtime_step in a loop of its own.
  *
  * Include this header first, or define _POSIX_C_SOURCE as 200809L before. It wants gcc or clang, in C99 or C++17. */
 #ifndef CBS_REALTIME_H
@@ -74,6 +78,11 @@ static inline void cbs_bell_stop(struct cbs_bell *bell) {
     cbs_bell_ring(bell);
 }
 
+/* Returns whether the house was told to stop, and forgets it. */
+static inline bool cbs_bell_stopped(struct cbs_bell *bell) {
+    return __atomic_exchange_n(&bell->stop, false, __ATOMIC_SEQ_CST);
+}
+
 /* Listens from now on. Who then sees nothing to do may wait: no ring is missed. */
 static inline void cbs_bell_listen(struct cbs_bell *bell) {
     pthread_mutex_lock(&bell->lock);
@@ -102,8 +111,10 @@ static inline void cbs_bell_wait(struct cbs_bell *bell, uint64_t until) {
     __atomic_store_n(&bell->listening, false, __ATOMIC_SEQ_CST);
 }
 
-/* ---- The clock: monotonic, in nanoseconds. Tests declare these three themselves, and define CBS_CLOCK_OF_ITS_OWN. ---- */
+/* ---- The clocks, in nanoseconds ---- */
 
+/* That of the ticks is monotonic. Tests declare these three themselves, and define
+ * CBS_CLOCK_OF_ITS_OWN. */
 #ifndef CBS_CLOCK_OF_ITS_OWN
 static inline uint64_t cbs_clock_now(void) {
     struct timespec at;
@@ -122,17 +133,17 @@ static inline void cbs_clock_wait(struct cbs_bell *bell, uint64_t until) {
 }
 #endif
 
-/* ---- The loop ---- */
+/* The processor time of the calling thread, by which units are charged if processor_time is true.
+ * Whoever charges by another clock declares this one, and defines CBS_WORKED_OF_ITS_OWN. */
+#ifndef CBS_WORKED_OF_ITS_OWN
+static inline uint64_t cbs_clock_worked(void) {
+    struct timespec at;
+    clock_gettime(CLOCK_THREAD_CPUTIME_ID, &at);
+    return (uint64_t)at.tv_sec * 1000000000U + (uint64_t)at.tv_nsec;
+}
+#endif
 
-/* What was seen. Times are in nanoseconds. */
-struct cbs_counts {
-    uint64_t units;       /* how many were done */
-    uint64_t overruns;    /* how many of them took longer than a tick */
-    uint64_t longest;     /* the longest unit */
-    uint64_t charged;     /* how many ticks were charged for overruns */
-    uint64_t behind;      /* how many whole ticks the house's clock is behind the real one, as it was seen last */
-    uint64_t most_behind; /* the most that this was */
-};
+/* ---- The loop ---- */
 
 /* A house in real time. */
 struct cbs_realtime {
@@ -140,18 +151,27 @@ struct cbs_realtime {
     struct cbs_bell *bell;
     void (*work)(void *context, const struct cbs_unit *unit); /* does a unit, by the serving thread */
     void *context;                                            /* given to work */
-    bool carry; /* true: what is less than a tick is carried to the server's next unit; false: it is rounded up */
+    bool carry; /* true: less than a tick is carried to the server's next unit; else rounded up */
+    /* False: a unit is charged for the time from the question that told it to the next one. So it
+     * pays for whatever took the processor away meanwhile, too.
+     * True: a unit is charged for the processor time that the serving thread took in that time, so
+     * each unit pays for itself alone. The house's clock falls behind by the rest of the time,
+     * which counts.behind shows, until idle ticks make up for it. What is promised in ticks is
+     * kept, and comes later by as much. Work that sleeps, or waits for other threads, does not pay
+     * for that. */
+    bool processor_time;
     struct cbs_counts counts; /* for the serving thread to read at any time */
     bool over;                /* whether every server is closed and every job is finished */
     /* The header's own: */
     bool begun;
-    uint16_t servers, unclosed;
-    uint64_t held, first, seen, passed, carried[64];
+    uint64_t worked; /* the processor time, as it was read last */
+    struct cbs_pacer pacer;
 };
 
-/* Returns a house in real time that has not begun. Its carry is false. */
-static inline struct cbs_realtime cbs_realtime_of(uint64_t tick, struct cbs_bell *bell,
-                                                  void (*work)(void *context, const struct cbs_unit *unit), void *context) {
+/* Returns a house in real time that has not begun. Its carry and its processor_time are false. */
+static inline struct cbs_realtime cbs_realtime_of(
+    uint64_t tick, struct cbs_bell *bell,
+    void (*work)(void *context, const struct cbs_unit *unit), void *context) {
     struct cbs_realtime self;
     memset(&self, 0, sizeof self);
     self.tick = tick;
@@ -161,136 +181,92 @@ static inline struct cbs_realtime cbs_realtime_of(uint64_t tick, struct cbs_bell
     return self;
 }
 
-/* How much time is over since the beginning. It never goes back. */
-static inline uint64_t cbs_realtime_time(struct cbs_realtime *self) {
-    uint64_t seen = cbs_clock_now(); /* a step back counts as no time */
-    self->passed += self->begun && seen > self->seen ? seen - self->seen : 0;
-    self->seen = seen;
-    return self->passed;
+/* Returns the processor time since this was called last. */
+static inline uint64_t cbs_realtime_took(struct cbs_realtime *self) {
+    uint64_t before = self->worked;
+    self->worked = cbs_clock_worked();
+    return self->worked - before;
 }
 
-/* What the clock will show when the house's tick comes. */
-static inline uint64_t cbs_realtime_due(const struct cbs_realtime *self, uint64_t tick) {
-    uint64_t ticks = tick - self->first, due = ticks > UINT64_MAX / self->tick ? UINT64_MAX : ticks * self->tick;
-    uint64_t left = due > self->passed ? due - self->passed : 0;
-    return left > UINT64_MAX - self->seen ? UINT64_MAX : self->seen + left;
-}
-
-/* Counts what is open and held, when the loop begins. */
-static inline uint32_t cbs_realtime_begin(struct cbs_realtime *self, struct cbs_handle *house) {
-    struct cbs_view view;
-    uint32_t status = cbs_now(house, &self->first);
-    self->servers = self->unclosed = 0;
-    self->held = 0;
-    while (status == CBS_OK && (status = cbs_view(house, self->servers, &view)) == CBS_OK) {
-        self->servers++;
-        self->unclosed = (uint16_t)(self->unclosed + !view.closed);
-        self->held += view.accepted - view.finished;
+/* Asks what is next. The unit before is charged. */
+static inline uint32_t cbs_realtime_ask(struct cbs_realtime *self, struct cbs_handle *house,
+                                        struct cbs_next *next) {
+    uint64_t now = cbs_clock_now();
+    uint32_t status = CBS_OK;
+    if (!self->begun) {
+        status = cbs_pace(house, self->tick, self->carry, now, &self->pacer);
+        self->begun = status == CBS_OK;
     }
-    cbs_realtime_time(self);
-    self->begun = status == CBS_HOUSE_NO_SUCH_SERVER;
-    return self->begun ? (uint32_t)CBS_OK : status;
-}
-
-/* The house's clock, and its idle span: no call refuses a house that is open. */
-static inline uint64_t cbs_realtime_now(struct cbs_handle *house) {
-    uint64_t now = 0;
-    cbs_now(house, &now);
-    return now;
-}
-
-static inline uint64_t cbs_realtime_span(struct cbs_handle *house) {
-    uint64_t span = UINT64_MAX;
-    cbs_idle_span(house, &span);
-    return span;
-}
-
-/* Lets the ticks pass that are over, as long as nobody is ready. Returns whether the house's next tick is still to come. */
-static inline bool cbs_realtime_catch_up(struct cbs_realtime *self, struct cbs_handle *house) {
-    uint64_t over = cbs_realtime_time(self) / self->tick, at = cbs_realtime_now(house) - self->first, span = cbs_realtime_span(house);
-    uint64_t behind = over > at ? over - at : 0;
-    if (span != UINT64_MAX && behind > 0) {
-        span = span < behind ? span : behind;
-        behind -= cbs_advance(house, span) == CBS_OK ? span : 0;
+    if (status == CBS_OK) {
+        status = self->processor_time
+                     ? cbs_next_measured(house, &self->pacer, now, cbs_realtime_took(self), next)
+                     : cbs_next(house, &self->pacer, now, next);
+        cbs_counts(&self->pacer, &self->counts);
     }
-    self->counts.behind = behind;
-    self->counts.most_behind = behind > self->counts.most_behind ? behind : self->counts.most_behind;
-    return at > over;
+    return status;
 }
 
-/* Polls each server once, and tells whether a message was taken. */
-static inline uint32_t cbs_realtime_poll(struct cbs_realtime *self, struct cbs_handle *house, bool *took) {
-    *took = false;
-    for (uint16_t server = 0; server < self->servers; server++) {
-        uint32_t kind, status = cbs_poll(house, server, &kind);
-        if (status != CBS_OK || kind == CBS_POLL_NO_MEMORY) {
-            return status != CBS_OK ? status : (uint32_t)CBS_HOUSE_OUT_OF_MEMORY;
-        }
-        self->held += kind == CBS_POLL_TOOK;
-        self->unclosed = (uint16_t)(self->unclosed - (kind == CBS_POLL_CLOSED));
-        *took = *took || kind == CBS_POLL_TOOK || kind == CBS_POLL_CLOSED;
+/* Asks nothing more for now. The unit before is charged. */
+static inline uint32_t cbs_realtime_done(struct cbs_realtime *self, struct cbs_handle *house) {
+    uint64_t now = cbs_clock_now();
+    uint32_t status = self->processor_time
+                          ? cbs_done_measured(house, &self->pacer, now, cbs_realtime_took(self))
+                          : cbs_done(house, &self->pacer, now);
+    cbs_counts(&self->pacer, &self->counts);
+    return status;
+}
+
+/* Does a unit. In C++ one that throws is charged and counted at once, and then throws on. */
+static inline void cbs_realtime_work(struct cbs_realtime *self, struct cbs_handle *house,
+                                     const struct cbs_unit *unit) {
+#if defined(__cplusplus) && defined(__cpp_exceptions)
+    try {
+        self->work(self->context, unit);
+    } catch (...) {
+        cbs_realtime_done(self, house);
+        throw;
+    }
+#else
+    (void)house;
+    self->work(self->context, unit);
+#endif
+}
+
+/* Asks one question, and does what follows from it: a unit, a sleep, or that all is over (over is
+ * true then). Between two steps the program may look at the house, at cbs_bell_stopped, and at
+ * counts. If it asks no more for now, cbs_realtime_done charges the last unit. Refuses and throws
+ * as cbs_realtime_run does. */
+static inline uint32_t cbs_realtime_step(struct cbs_realtime *self, struct cbs_handle *house) {
+    struct cbs_next next;
+    uint32_t status = cbs_realtime_ask(self, house, &next);
+    if (status != CBS_OK) {
+        return status;
+    }
+    self->over = next.kind == CBS_NEXT_OVER;
+    switch (next.kind) {
+    case CBS_NEXT_UNIT: cbs_realtime_work(self, house, &next.unit); break;
+    case CBS_NEXT_SLEEP: cbs_clock_sleep(next.until); break;
+    case CBS_NEXT_LISTEN: cbs_bell_listen(self->bell); break;
+    case CBS_NEXT_WAIT: cbs_clock_wait(self->bell, next.until); break;
+    case CBS_NEXT_CLOCK_END: return CBS_HOUSE_CLOCK_END;
+    case CBS_NEXT_NO_MEMORY: return CBS_HOUSE_OUT_OF_MEMORY;
+    default: break;
     }
     return CBS_OK;
 }
 
-/* Does a unit, measures it, and charges what it took beyond a tick. */
-static inline uint32_t cbs_realtime_work(struct cbs_realtime *self, struct cbs_handle *house, const struct cbs_unit *unit) {
-    uint64_t began = cbs_realtime_time(self), took, beyond, ticks;
-    self->held -= unit->kind == CBS_RUN_DONE;
-    self->work(self->context, unit);
-    took = cbs_realtime_time(self) - began;
-    beyond = took > self->tick ? took - self->tick : 0;
-    if (self->carry) {
-        beyond += self->carried[unit->server];
-        self->carried[unit->server] = beyond % self->tick;
-    }
-    ticks = beyond / self->tick + (!self->carry && beyond % self->tick != 0);
-    self->counts.units++;
-    self->counts.overruns += took > self->tick;
-    self->counts.longest = took > self->counts.longest ? took : self->counts.longest;
-    uint32_t status = cbs_charge(house, unit->server, ticks);
-    self->counts.charged += status == CBS_OK ? ticks : 0;
-    return status;
-}
-
-/* Takes messages, and does a unit if its tick has come, or sleeps until it comes. Tells whether there was nothing to do. */
-static inline uint32_t cbs_realtime_step(struct cbs_realtime *self, struct cbs_handle *house, bool *idle) {
-    struct cbs_unit unit;
-    bool took, ahead = cbs_realtime_catch_up(self, house);
-    uint32_t status = cbs_realtime_poll(self, house, &took);
-    *idle = false;
-    self->over = status == CBS_OK && self->unclosed == 0 && self->held == 0;
-    if (status != CBS_OK || self->over) {
-        return status;
-    }
-    if (ahead) {
-        cbs_clock_sleep(cbs_realtime_due(self, cbs_realtime_now(house)));
-        return CBS_OK;
-    }
-    if ((status = cbs_run(house, &unit)) != CBS_OK || unit.kind == CBS_RUN_CLOCK_END) {
-        return status != CBS_OK ? status : (uint32_t)CBS_HOUSE_CLOCK_END;
-    }
-    *idle = unit.kind == CBS_RUN_IDLE && !took;
-    return unit.kind == CBS_RUN_IDLE ? (uint32_t)CBS_OK : cbs_realtime_work(self, house, &unit);
-}
-
-/* Serves until every client has ended or was freed and all jobs are finished (over is true then), or until it is told to stop.
- * Refuses by CBS_HOUSE_OUT_OF_MEMORY, CBS_HOUSE_CLOCK_END, and as cbs_now does. It may be called again, for the same house: it goes
- * on at the same time, and nothing is lost. */
+/* Serves until every client has ended or was freed and all jobs are finished (over is true then),
+ * or until it is told to stop. Refuses by CBS_HOUSE_OUT_OF_MEMORY, CBS_HOUSE_CLOCK_END, and as
+ * cbs_now does. In C++ it throws what work throws. It may be called again, for the same house: it
+ * goes on at the same time, and nothing is lost. */
 static inline uint32_t cbs_realtime_run(struct cbs_realtime *self, struct cbs_handle *house) {
-    bool listens = false, idle;
-    uint32_t status = self->begun ? (uint32_t)CBS_OK : cbs_realtime_begin(self, house);
-    while (status == CBS_OK && !__atomic_exchange_n(&self->bell->stop, false, __ATOMIC_SEQ_CST)) {
-        if ((status = cbs_realtime_step(self, house, &idle)) != CBS_OK || self->over) {
-            break;
+    uint32_t status = CBS_OK;
+    self->over = false;
+    while (status == CBS_OK && !self->over) {
+        if (cbs_bell_stopped(self->bell)) {
+            return cbs_realtime_done(self, house);
         }
-        if (idle && listens) { /* until somebody who waits gets a budget, or the bell rings */
-            uint64_t next = cbs_realtime_now(house) + (self->held > 0 ? cbs_realtime_span(house) : 0);
-            cbs_clock_wait(self->bell, self->held > 0 ? cbs_realtime_due(self, next) : UINT64_MAX);
-        } else if (idle) {
-            cbs_bell_listen(self->bell); /* and one more step, lest a message came before */
-        }
-        listens = idle && !listens;
+        status = cbs_realtime_step(self, house);
     }
     return status;
 }

@@ -11,6 +11,7 @@
 #include <time.h>
 
 #define CALLS 2000
+#define TICK 1000 /* of the cases in real time, in nanoseconds */
 #define MUST(condition)                                          \
     do {                                                         \
         if (!(condition)) {                                      \
@@ -20,14 +21,20 @@
     } while (0)
 
 /* Those up to JOB are timed. */
-enum { NOW, RUN_IDLE, RUN_UNIT, TURN_UNIT, POLL_NOTHING, IDLE_SPAN, JOB, TURN_IDLE, CASES };
+enum {
+    NOW, RUN_IDLE, RUN_UNIT, TURN_UNIT, POLL_NOTHING, IDLE_SPAN, NEXT_IDLE, NEXT_UNIT, JOB,
+    TURN_IDLE, CASES
+};
 static const char *const names[CASES] = {"now", "run, idle", "run, a unit", "turn, a unit", "poll, nothing", "idle_span",
+                                         "next, nobody ready", "next, a unit",
                                          "send, poll and run a job of one unit", "turn, idle"};
 
 struct bench {
     struct cbs_handle house;
     struct cbs_handle clients[64];
     size_t n;
+    struct cbs_pacer pacer;
+    uint64_t time; /* the reading of the cases in real time */
     double least[JOB + 1];
 };
 
@@ -40,6 +47,7 @@ static double nanoseconds(void) {
 static void call(struct bench *bench, int which, uint16_t server, uint64_t number) {
     struct cbs_unit unit;
     struct cbs_turn turn;
+    struct cbs_next next;
     uint64_t out;
     uint32_t kind;
     switch (which) {
@@ -50,6 +58,11 @@ static void call(struct bench *bench, int which, uint16_t server, uint64_t numbe
     case TURN_UNIT: MUST(cbs_turn(&bench->house, &turn) == CBS_OK && turn.ran.kind == CBS_RUN_UNIT); break;
     case POLL_NOTHING: MUST(cbs_poll(&bench->house, server, &kind) == CBS_OK && kind == CBS_POLL_NOTHING); break;
     case IDLE_SPAN: MUST(cbs_idle_span(&bench->house, &out) == CBS_OK); break;
+    case NEXT_IDLE:
+    case NEXT_UNIT:
+        MUST(cbs_next(&bench->house, &bench->pacer, bench->time += TICK, &next) == CBS_OK);
+        MUST((next.kind == CBS_NEXT_UNIT) == (which == NEXT_UNIT));
+        break;
     default:
         MUST(cbs_send(&bench->clients[server], number, 1, &out) == CBS_OK);
         MUST(cbs_poll(&bench->house, server, &kind) == CBS_OK && kind == CBS_POLL_TOOK);
@@ -60,6 +73,8 @@ static void call(struct bench *bench, int which, uint16_t server, uint64_t numbe
 /* Calls with the servers in turn. Nothing is divided here: that would be measured. */
 static void calls(struct bench *bench, int which, uint64_t count) {
     uint16_t server = 0;
+    bench->time = 0;
+    MUST(cbs_pace(&bench->house, TICK, false, 0, &bench->pacer) == CBS_OK);
     for (uint64_t number = 0; number < count; number++) {
         call(bench, which, server, number);
         server++;
@@ -112,7 +127,7 @@ static void free_house(struct bench *bench) {
 }
 
 static void round_of(struct bench *bench, size_t n) {
-    static const int unloaded[] = {NOW, RUN_IDLE, POLL_NOTHING, IDLE_SPAN, JOB};
+    static const int unloaded[] = {NOW, RUN_IDLE, POLL_NOTHING, IDLE_SPAN, NEXT_IDLE, JOB};
     open_house(bench, n);
     for (size_t i = 0; i < sizeof unloaded / sizeof unloaded[0]; i++) {
         measure(bench, unloaded[i]);
@@ -120,6 +135,7 @@ static void round_of(struct bench *bench, size_t n) {
     load(bench);
     measure(bench, RUN_UNIT);
     measure(bench, TURN_UNIT);
+    measure(bench, NEXT_UNIT);
     free_house(bench);
 }
 
@@ -131,7 +147,7 @@ static void one_case(const char *name, size_t n, uint64_t count) {
         MUST(which < CASES);
     }
     open_house(&bench, n);
-    if (which == RUN_UNIT || which == TURN_UNIT) {
+    if (which == RUN_UNIT || which == TURN_UNIT || which == NEXT_UNIT) {
         load(&bench);
     }
     calls(&bench, which, count);

@@ -13,6 +13,9 @@ struct guarded_server { char before; struct cbs_server it; char after[8]; };
 struct guarded_unit { char before; struct cbs_unit it; char after[8]; };
 struct guarded_turn { char before; struct cbs_turn it; char after[8]; };
 struct guarded_view { char before; struct cbs_view it; char after[8]; };
+struct guarded_next { char before; struct cbs_next it; char after[8]; };
+struct guarded_pacer { char before; struct cbs_pacer it; char after[8]; };
+struct guarded_counts { char before; struct cbs_counts it; char after[8]; };
 
 /* What the declarations of other languages count on. */
 static void layouts(void) {
@@ -39,6 +42,24 @@ static void layouts(void) {
     FIELD(cbs_view, finished, 32, 8);
     FIELD(cbs_view, throttled, 40, 1);
     FIELD(cbs_view, closed, 41, 1);
+}
+
+/* Of real time. */
+static void layouts_of_pacing(void) {
+    CHECK(sizeof(struct cbs_next) == 40 && sizeof(struct cbs_counts) == 48);
+    CHECK(sizeof(struct cbs_pacer) == 608 && cbs_pacer_size() == 608);
+    CHECK(offsetof(struct guarded_next, it) == 8 && offsetof(struct guarded_pacer, it) == 8);
+    CHECK(offsetof(struct guarded_counts, it) == 8);
+    FIELD(cbs_next, kind, 0, 4);
+    FIELD(cbs_next, taken, 4, 4);
+    FIELD(cbs_next, until, 8, 8);
+    FIELD(cbs_next, unit, 16, 24);
+    FIELD(cbs_counts, units, 0, 8);
+    FIELD(cbs_counts, overruns, 8, 8);
+    FIELD(cbs_counts, longest, 16, 8);
+    FIELD(cbs_counts, charged, 24, 8);
+    FIELD(cbs_counts, behind, 32, 8);
+    FIELD(cbs_counts, most_behind, 40, 8);
 }
 
 /* The library has these layouts, too: it writes each field, and nothing beside the struct, and reads nothing between fields. */
@@ -99,9 +120,46 @@ static void fields(void) {
     CHECK(untouched(house.after, 8) && untouched(&clients.before, 1) && untouched(clients.after, 8));
 }
 
+/* The same in real time. A tick is 1000. At 7100 seven ticks are over, and the clock stands at 4:
+ * after two units, and the 2 that one of 3.5 ticks is charged, with 0.5 carried. */
+static void fields_of_pacing(void) {
+    const struct cbs_server server[1] = {{1, 1, CBS_SOFT}};
+    struct guarded_next next;
+    struct guarded_pacer pacer;
+    struct guarded_counts counts;
+    struct setup setup;
+    memset(&next, 0x5a, sizeof next);
+    memset(&pacer, 0x5a, sizeof pacer);
+    memset(&counts, 0x5a, sizeof counts);
+    set_up(&setup, server, 1, 4, 4);
+    send_job(&setup.clients[0], 11, 4, 0);
+    CHECK(cbs_pace(&setup.house, 1000, true, 0, &pacer.it) == CBS_OK);
+    CHECK(cbs_next(&setup.house, &pacer.it, 0, &next.it) == CBS_OK);
+    CHECK(next.it.kind == CBS_NEXT_UNIT && next.it.taken == 1);
+    is_unit(&next.it.unit, CBS_RUN_UNIT, 0, 0, 11);
+    CHECK(cbs_next_measured(&setup.house, &pacer.it, 300, 200, &next.it) == CBS_OK);
+    CHECK(next.it.kind == CBS_NEXT_SLEEP && next.it.taken == 0 && next.it.until == 1000);
+    CHECK(cbs_next(&setup.house, &pacer.it, 1000, &next.it) == CBS_OK);
+    CHECK(next.it.kind == CBS_NEXT_UNIT);
+    CHECK(cbs_done(&setup.house, &pacer.it, 4500) == CBS_OK);
+    CHECK(cbs_next(&setup.house, &pacer.it, 7100, &next.it) == CBS_OK);
+    CHECK(next.it.kind == CBS_NEXT_UNIT);
+    CHECK(cbs_done_measured(&setup.house, &pacer.it, 7200, 50) == CBS_OK);
+    cbs_counts(&pacer.it, &counts.it);
+    CHECK(counts.it.units == 3 && counts.it.overruns == 1);
+    CHECK(counts.it.longest == 3500 && counts.it.charged == 2);
+    CHECK(counts.it.behind == 3 && counts.it.most_behind == 3);
+    CHECK(untouched(&next.before, 1) && untouched(next.after, 8));
+    CHECK(untouched(&pacer.before, 1) && untouched(pacer.after, 8));
+    CHECK(untouched(&counts.before, 1) && untouched(counts.after, 8));
+    tear_down(&setup);
+}
+
 int main(void) {
     layouts();
+    layouts_of_pacing();
     fields();
+    fields_of_pacing();
     puts("the layouts of all structs: as they should be");
     return 0;
 }

@@ -140,6 +140,37 @@ static void need_none(struct setup *setup) {
     CHECK(asked == 0);
 }
 
+/* A house in real time: a job for which there is no memory stays in its ring, and is taken when
+ * there is some. All else of a pacer needs none. */
+static void paces(void) {
+    struct setup setup;
+    struct cbs_pacer pacer;
+    struct cbs_next next;
+    struct cbs_counts counts;
+    uint64_t seq, waiting = 9;
+    refuse(-1, false);
+    set_up(&setup, servers, SERVERS, 4, 4);
+    CHECK(cbs_send(&setup.clients[1], 7, 2, &seq) == CBS_OK);
+    refuse(0, true);
+    CHECK(cbs_pace(&setup.house, 1000, false, 0, &pacer) == CBS_OK && asked == 0);
+    for (uint64_t time = 0; time < 3; time++) {
+        CHECK(cbs_next(&setup.house, &pacer, time, &next) == CBS_OK && asked > 0);
+        CHECK(next.kind == CBS_NEXT_NO_MEMORY && next.taken == 0);
+        CHECK(cbs_waiting(&setup.clients[1], &waiting) == CBS_OK && waiting == 1);
+    }
+    refuse(-1, false);
+    CHECK(cbs_next(&setup.house, &pacer, 3, &next) == CBS_OK);
+    CHECK(next.kind == CBS_NEXT_UNIT && next.taken == 1);
+    refuse(0, true);
+    CHECK(cbs_done(&setup.house, &pacer, 9000) == CBS_OK);
+    CHECK(cbs_next(&setup.house, &pacer, 60000, &next) == CBS_OK && next.kind == CBS_NEXT_UNIT);
+    is_unit(&next.unit, CBS_RUN_DONE, 1, seq, 7);
+    cbs_counts(&pacer, &counts);
+    CHECK(counts.units == 1 && asked == 0);
+    tear_down(&setup);
+    CHECK(live == 0);
+}
+
 /* Serves so many jobs of one unit of each server. */
 static void serves(struct setup *setup, long jobs) {
     for (long job = 0; job < jobs; job++) {
@@ -189,6 +220,7 @@ int main(void) {
             }
         }
     }
+    paces();
     serves_for_long();
     printf("allocations, each refused in turn: %ld of cbs_open, %ld of cbs_poll, %ld of cbs_turn\n", in_open, in_poll, in_turn);
     return 0;

@@ -51,8 +51,9 @@ impl Bell {
         self.listening.store(false, Ordering::SeqCst);
     }
 
-    /// Waits until it is rung, and for so long at most, if that is said. A [`Clock`](crate::realtime::Clock) calls it, when it is
-    /// told to wait.
+    /// Waits until it is rung, and for so long at most, if that is said. It is for who was told
+    /// [`WaitUntil`](crate::realtime::Next::WaitUntil): the house has listened since, so no ring is
+    /// missed. A [`Clock`](crate::realtime::Clock) calls it, when it is told to wait.
     pub fn wait(&self, most: Option<Duration>) {
         let until = most.and_then(|most| Instant::now().checked_add(most));
         let mut rung = self.rung();

@@ -60,7 +60,8 @@ pub(crate) struct Server {
     pub(crate) mode: u32,
 }
 
-/// The kinds of [`Unit`], and the results of a poll: each under its name of the header, without `CBS_`.
+/// The kinds of [`Unit`] and of [`Next`], and the results of a poll: each under its name of the
+/// header, without `CBS_`.
 pub(crate) mod kind {
     pub(crate) const RUN_IDLE: u32 = 0;
     pub(crate) const RUN_CLOCK_END: u32 = 1;
@@ -72,6 +73,14 @@ pub(crate) mod kind {
     pub(crate) const POLL_CLOSED: u32 = 2;
     pub(crate) const POLL_FULL: u32 = 3;
     pub(crate) const POLL_NO_MEMORY: u32 = 4;
+
+    pub(crate) const NEXT_UNIT: u32 = 0;
+    pub(crate) const NEXT_SLEEP: u32 = 1;
+    pub(crate) const NEXT_LISTEN: u32 = 2;
+    pub(crate) const NEXT_WAIT: u32 = 3;
+    pub(crate) const NEXT_OVER: u32 = 4;
+    pub(crate) const NEXT_CLOCK_END: u32 = 5;
+    pub(crate) const NEXT_NO_MEMORY: u32 = 6;
 }
 
 /// `struct cbs_unit`.
@@ -108,6 +117,34 @@ pub(crate) struct View {
     pub(crate) closed: bool,
 }
 
+/// `struct cbs_next`.
+#[repr(C)]
+#[derive(Clone, Copy, Default)]
+pub(crate) struct Next {
+    pub(crate) kind: u32,
+    pub(crate) taken: u32,
+    pub(crate) until: u64,
+    pub(crate) unit: Unit,
+}
+
+/// `struct cbs_pacer`: plain data, what `cbs_pace` wrote.
+#[repr(C)]
+pub(crate) struct Pacer {
+    own: [u64; 76],
+}
+
+/// `struct cbs_counts`.
+#[repr(C)]
+#[derive(Clone, Copy, Default)]
+pub(crate) struct Counts {
+    pub(crate) units: u64,
+    pub(crate) overruns: u64,
+    pub(crate) longest: u64,
+    pub(crate) charged: u64,
+    pub(crate) behind: u64,
+    pub(crate) most_behind: u64,
+}
+
 /// The first two numbers of the version of the library that these declarations fit: `cbs_version() / 100`.
 const FITS: u32 = 1;
 
@@ -136,6 +173,20 @@ extern "C" {
     fn cbs_idle_span(house: *mut Raw, out: *mut u64) -> u32;
     fn cbs_view(house: *mut Raw, server: u16, out: *mut View) -> u32;
     fn cbs_promised(house: *mut Raw, server: u16, low: *mut u64, high: *mut u64) -> u32;
+    fn cbs_pace(house: *mut Raw, tick: u64, carry: bool, time: u64, pacer: *mut Pacer) -> u32;
+    fn cbs_next(house: *mut Raw, pacer: *mut Pacer, time: u64, next: *mut Next) -> u32;
+    fn cbs_next_measured(
+        house: *mut Raw,
+        pacer: *mut Pacer,
+        time: u64,
+        took: u64,
+        next: *mut Next,
+    ) -> u32;
+    fn cbs_done(house: *mut Raw, pacer: *mut Pacer, time: u64) -> u32;
+    fn cbs_done_measured(house: *mut Raw, pacer: *mut Pacer, time: u64, took: u64) -> u32;
+    fn cbs_counts(pacer: *const Pacer, counts: *mut Counts);
+    #[cfg(test)]
+    fn cbs_pacer_size() -> usize;
     fn cbs_send(client: *mut Raw, token: u64, units: u32, seq: *mut u64) -> u32;
     fn cbs_end(client: *mut Raw) -> u32;
     fn cbs_waiting(client: *mut Raw, out: *mut u64) -> u32;
@@ -155,7 +206,7 @@ fn answered<T>(status: u32, value: T) -> Result<T, Status> {
 
 // SAFETY of the calls below: each handle is not open or owned by the `Handle` that is borrowed, which is in no other call, since
 // it is not `Sync` and no call runs code of the program; slices give a pointer that is not null, and their length; each out
-// parameter is a local of its own.
+// parameter is a local of its own; a pacer is what `cbs_pace` wrote, and is borrowed alone.
 
 /// Ends the program if the library that was linked is not of the version that this crate was written for.
 fn must_fit() {
@@ -275,6 +326,53 @@ pub(crate) fn promised(house: &Handle, server: u16) -> Result<(u64, u64), Status
     answered(status, (low, high))
 }
 
+pub(crate) fn pace(house: &Handle, tick: u64, carry: bool, time: u64) -> Result<Pacer, Status> {
+    let mut pacer = Pacer { own: [0; 76] };
+    let status = unsafe { cbs_pace(house.0.get(), tick, carry, time, &mut pacer) };
+    answered(status, pacer)
+}
+
+/// Asks what is next. The unit before is charged what it `took`, or else the time since the last
+/// reading.
+#[inline]
+pub(crate) fn next(
+    house: &mut Handle,
+    pacer: &mut Pacer,
+    time: u64,
+    took: Option<u64>,
+) -> Result<Next, Status> {
+    let mut next = Next::default();
+    let house = house.0.get();
+    let status = match took {
+        None => unsafe { cbs_next(house, pacer, time, &mut next) },
+        Some(took) => unsafe { cbs_next_measured(house, pacer, time, took, &mut next) },
+    };
+    answered(status, next)
+}
+
+/// Ends the unit before, and charges it as [`next`] does.
+#[inline]
+pub(crate) fn done(
+    house: &mut Handle,
+    pacer: &mut Pacer,
+    time: u64,
+    took: Option<u64>,
+) -> Result<(), Status> {
+    let house = house.0.get();
+    let status = match took {
+        None => unsafe { cbs_done(house, pacer, time) },
+        Some(took) => unsafe { cbs_done_measured(house, pacer, time, took) },
+    };
+    answered(status, ())
+}
+
+#[inline]
+pub(crate) fn counts(pacer: &Pacer) -> Counts {
+    let mut counts = Counts::default();
+    unsafe { cbs_counts(pacer, &mut counts) };
+    counts
+}
+
 #[inline]
 pub(crate) fn send(client: &mut Handle, token: u64, units: u32) -> Result<u64, Status> {
     let mut seq = 0;
@@ -319,5 +417,9 @@ mod tests {
         assert_eq!(size_of::<Unit>(), 24);
         assert_eq!(size_of::<Turn>(), 48);
         assert_eq!(size_of::<View>(), 48);
+        assert_eq!(size_of::<Next>(), 40);
+        assert_eq!(size_of::<Counts>(), 48);
+        assert_eq!(size_of::<Pacer>(), 608);
+        assert_eq!(unsafe { cbs_pacer_size() }, size_of::<Pacer>());
     }
 }

@@ -1,9 +1,11 @@
 use crate::bell::{Bell, Stopper};
 use crate::error::{not_answered, HouseError, RunError};
 use crate::ffi::{self, kind, Handle, Status};
+use crate::pacer::{nanos, Next, Pacer, Rounding};
 use crate::tokens::Tokens;
 use crate::unit::{Token, Unfinished, Unit};
 use std::sync::Arc;
+use std::time::Duration;
 
 /// The serving thread's side: it owns the executor, takes jobs from the rings, and tells which unit is next.
 ///
@@ -179,7 +181,17 @@ impl<T> House<T> {
         self.stopper.clone()
     }
 
-    pub(crate) fn bell(&self) -> &Bell {
+    /// Returns whether it was told to [stop](House::stopper), and forgets it. It is for a loop of
+    /// one's own.
+    #[must_use]
+    pub fn is_told_to_stop(&self) -> bool {
+        self.stopper.is_told()
+    }
+
+    /// Returns what wakes it while it sleeps: each send and each end of its clients, and who tells
+    /// it to stop.
+    #[must_use]
+    pub fn bell(&self) -> &Bell {
         &self.bell
     }
 
@@ -191,6 +203,11 @@ impl<T> House<T> {
             seq: unit.seq,
             token: self.servers[server].token(unit.seq, last),
         }
+    }
+
+    /// Wakes the senders who wait for room in a ring.
+    fn ring_senders(&self) {
+        Bell::ring_each(self.servers.iter().map(|served| &served.tokens.room));
     }
 
     fn ran(&mut self, unit: ffi::Unit) -> Ran<'_, T> {
@@ -222,7 +239,7 @@ impl<T> House<T> {
     pub fn turn(&mut self) -> Turn<'_, T> {
         let turn = certain(ffi::turn(&mut self.handle));
         if turn.took > 0 {
-            Bell::ring_each(self.servers.iter().map(|served| &served.tokens.room));
+            self.ring_senders();
         }
         Turn {
             took: turn.took as usize, // at most one of each server
@@ -285,6 +302,117 @@ impl<T> House<T> {
             listens = idle && !listens;
         }
         Ok(Ended::Stopped)
+    }
+
+    /// Begins its time in real time, at this reading of its host's clock. Returns the pacer, which
+    /// [`next`](House::next) is asked with. A tick is at least a nanosecond long.
+    #[must_use]
+    pub fn pace(&self, tick: Duration, rounding: Rounding, time: Duration) -> Pacer {
+        let carry = rounding == Rounding::Carry;
+        let pacer = ffi::pace(&self.handle, nanos(tick), carry, nanos(time));
+        Pacer {
+            own: certain(pacer),
+            taken: 0,
+        }
+    }
+
+    /// Takes a reading of its host's clock, and returns what the host does next. In this order:
+    ///
+    /// - The unit that was being done ends. Its server is charged for the time since the last
+    ///   reading, unless the program has run or advanced the house by hand since.
+    /// - If nobody is ready the ticks pass that are over.
+    /// - Each server is polled once. [`Pacer::taken`] tells how many messages came.
+    /// - If somebody is ready and the tick of the unit has come, the unit is run.
+    ///
+    /// So what is [`promised`](House::promised) of a job can be asked right after the question that
+    /// took it, once its unit is done. This never waits and reads no clock. A step back of the
+    /// clock counts as no time.
+    ///
+    /// [`Realtime`](crate::realtime::Realtime) is a loop over it. One of one's own:
+    ///
+    /// ```
+    /// use cbs::realtime::{Clock, Monotonic, Next, Rounding};
+    /// use cbs::{Mode, Plan};
+    /// use std::time::Duration;
+    ///
+    /// let mut plan = Plan::new();
+    /// plan.admit(2, 5, Mode::Throttled)?;
+    /// let (mut house, mut clients) = plan.open(4, 4)?;
+    /// clients[0].send("wash", 3)?;
+    /// drop(clients);
+    /// let mut clock = Monotonic::default();
+    /// let mut pacer = house.pace(Duration::from_millis(1), Rounding::Up, clock.now());
+    /// loop {
+    ///     match house.next(&mut pacer, clock.now()) {
+    ///         Next::Do(unit) => println!("{}", *unit.token),
+    ///         Next::SleepUntil(time) => clock.sleep_until(time),
+    ///         Next::Listen => {}
+    ///         Next::WaitUntil(time) => clock.wait(house.bell(), time),
+    ///         Next::Over | Next::ClockEnd | Next::OutOfMemory => break,
+    ///     }
+    /// }
+    /// assert_eq!(pacer.counts().units, 3);
+    /// # Ok::<(), Box<dyn std::error::Error>>(())
+    /// ```
+    pub fn next(&mut self, pacer: &mut Pacer, time: Duration) -> Next<'_, T> {
+        self.ask(pacer, time, None)
+    }
+
+    /// Does what [`next`](House::next) does, but charges the unit that was being done the time
+    /// `took`, by whatever clock the host took it. More than the time since the last reading is not
+    /// charged. What is not charged of that time is nobody's, and the house falls behind by it.
+    pub fn next_measured(
+        &mut self,
+        pacer: &mut Pacer,
+        time: Duration,
+        took: Duration,
+    ) -> Next<'_, T> {
+        self.ask(pacer, time, Some(took))
+    }
+
+    pub(crate) fn ask(
+        &mut self,
+        pacer: &mut Pacer,
+        time: Duration,
+        took: Option<Duration>,
+    ) -> Next<'_, T> {
+        let (time, took) = (nanos(time), took.map(nanos));
+        let next = certain(ffi::next(&mut self.handle, &mut pacer.own, time, took));
+        pacer.taken = next.taken as usize; // at most one of each server
+        if next.taken > 0 {
+            self.ring_senders();
+        }
+        let until = Duration::from_nanos(next.until);
+        match next.kind {
+            kind::NEXT_UNIT => Next::Do(self.unit(next.unit, next.unit.kind == kind::RUN_DONE)),
+            kind::NEXT_SLEEP => Next::SleepUntil(until),
+            kind::NEXT_LISTEN => {
+                self.bell.listen();
+                Next::Listen
+            }
+            kind::NEXT_WAIT => Next::WaitUntil(Some(until).filter(|_| next.until != u64::MAX)),
+            kind::NEXT_OVER => Next::Over,
+            kind::NEXT_CLOCK_END => Next::ClockEnd,
+            kind::NEXT_NO_MEMORY => Next::OutOfMemory,
+            other => unreachable!("cbs: what is next has the kind {other}"),
+        }
+    }
+
+    /// Ends the unit that was being done, at this reading, and charges it as [`next`](House::next)
+    /// does. It is for a host that stops asking, for now or for ever.
+    pub fn done(&mut self, pacer: &mut Pacer, time: Duration) {
+        self.end(pacer, time, None);
+    }
+
+    /// Does what [`done`](House::done) does, but charges the time `took`, as
+    /// [`next_measured`](House::next_measured) does.
+    pub fn done_measured(&mut self, pacer: &mut Pacer, time: Duration, took: Duration) {
+        self.end(pacer, time, Some(took));
+    }
+
+    pub(crate) fn end(&mut self, pacer: &mut Pacer, time: Duration, took: Option<Duration>) {
+        let (time, took) = (nanos(time), took.map(nanos));
+        certain(ffi::done(&mut self.handle, &mut pacer.own, time, took));
     }
 
     /// Takes the next message of one server, if there is one and room for it. What is not taken stays in its ring.
@@ -428,10 +556,6 @@ impl<T> House<T> {
             all.extend(unfinished.map(|(seq, token)| Unfinished { server, seq, token }));
         }
         all
-    }
-
-    pub(crate) fn is_told_to_stop(&self) -> bool {
-        self.stopper.is_told()
     }
 }
 

@@ -35,8 +35,9 @@
 //! # Ok::<(), Box<dyn std::error::Error>>(())
 //! ```
 //!
-//! A loop of one's own takes turns: [`House::turn`], or [`House::poll`] and [`House::run`], return which unit is next, and never
-//! wait.
+//! A loop of one's own in real time asks [`House::next`] what it does next, or looks at the house
+//! between two [steps](realtime::Realtime::step). Without a clock it takes turns: [`House::turn`],
+//! or [`House::poll`] and [`House::run`], return which unit is next, and never wait.
 //!
 //! A client that is dropped has ended, and a house that was dropped is an error of its clients' sends, so no side waits for one
 //! that is gone. Memory is taken by [`Plan::open`], and when the house takes a job.
@@ -52,6 +53,7 @@ mod error;
 mod ffi;
 mod house;
 mod job;
+mod pacer;
 mod plan;
 pub mod realtime;
 mod tokens;

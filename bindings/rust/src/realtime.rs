@@ -18,10 +18,13 @@
 //! ```
 
 use crate::bell::Bell;
-use crate::error::{HouseError, RunError};
-use crate::house::{Ended, House, Poll, Ran};
+use crate::error::RunError;
+use crate::house::{Ended, House};
 use crate::job::Job;
+pub use crate::pacer::{Counts, Next, Pacer, Rounding};
 use crate::unit::Unit;
+use std::mem;
+use std::thread;
 use std::time::{Duration, Instant};
 
 /// A clock that never goes back, and who waits by it. [`Monotonic`] is that of the machine; tests have others.
@@ -33,7 +36,21 @@ pub trait Clock {
     fn sleep_until(&mut self, time: Duration);
 
     /// Waits until the bell rings ([`Bell::wait`]), and until that time at most, if there is one.
+    /// It may come back sooner.
     fn wait(&mut self, bell: &Bell, until: Option<Duration>);
+
+    /// Returns how much the serving thread has worked since some moment, by the measure that units
+    /// are charged by, or `None` if that is [`now`](Clock::now).
+    ///
+    /// By default it is `now`: a unit is charged for the time from the question that told it to the
+    /// next one, and pays for whatever took the processor away meanwhile, too. With the thread's
+    /// processor time (`CLOCK_THREAD_CPUTIME_ID`) each unit pays for itself alone. The house's
+    /// clock falls behind by the rest of the time, which [`Counts::behind`] shows, until idle ticks
+    /// make up for it. What is promised in ticks is kept, and comes later by as much. More than the
+    /// time by `now` is not charged.
+    fn worked(&mut self) -> Option<Duration> {
+        None
+    }
 }
 
 /// The machine's monotonic clock.
@@ -52,7 +69,7 @@ impl Clock for Monotonic {
     }
 
     fn sleep_until(&mut self, time: Duration) {
-        std::thread::sleep(time.saturating_sub(self.0.elapsed()));
+        thread::sleep(time.saturating_sub(self.0.elapsed()));
     }
 
     fn wait(&mut self, bell: &Bell, until: Option<Duration>) {
@@ -60,136 +77,49 @@ impl Clock for Monotonic {
     }
 }
 
-/// How many ticks a unit that took longer than one is charged. It is never rounded down.
-#[derive(Clone, Copy, Debug, Default, PartialEq, Eq, Hash)]
-#[non_exhaustive]
-pub enum Rounding {
-    /// The time beyond its first tick, rounded up: a unit of 1.01 ticks is charged one.
-    #[default]
-    Up,
-    /// The whole ticks of what the units of its server took beyond a tick. The rest is carried to the server's next unit.
-    Carry,
-}
-
-/// What a house in real time has seen.
-#[derive(Clone, Copy, Debug, Default, PartialEq, Eq)]
-#[must_use]
-#[non_exhaustive]
-pub struct Counts {
-    /// How many units were done.
-    pub units: u64,
-    /// How many of them took longer than a tick.
-    pub overruns: u64,
-    /// The longest unit.
-    pub longest: Duration,
-    /// How many ticks were charged for overruns.
-    pub charged: u64,
-    /// How many whole ticks the house's clock is behind the real one, as it was seen last.
-    pub behind: u64,
-    /// The most that this was.
-    pub most_behind: u64,
-}
-
 /// A house that is served in real time, by a tick of some length.
 ///
-/// In each tick it takes messages, and does at most one unit: measured, and charged if it took longer. While nobody is ready ticks
-/// pass, and it sleeps until the next deadline of somebody who waits, or until a send. So throttled servers wait in real time. The
-/// house's clock is ahead of the real one by at most a tick, and no unit begins before its tick. If it has fallen behind, ticks
-/// follow each other at once.
+/// In each tick it takes messages, and does at most one unit: measured, and charged if it took
+/// longer. While nobody is ready ticks pass, and it sleeps until the next deadline of somebody who
+/// waits, or until a send. So throttled servers wait in real time. The house's clock is ahead of
+/// the real one by at most a tick, and no unit begins before its tick. If it has fallen behind,
+/// units follow each other at once.
+///
+/// It is a loop over [`House::next`].
 #[derive(Debug)]
 pub struct Realtime<'h, T, C = Monotonic> {
     house: &'h mut House<T>,
-    time: Time<C>,
-    tick: Duration,
-    /// The house's clock when the real time began.
-    first: u64,
-    rounding: Rounding,
-    /// What each server has to pay of earlier units, less than a tick.
-    carried: Vec<Duration>,
-    unclosed: usize,
-    held: u64,
-    counts: Counts,
-}
-
-/// Real time since a start: it never goes back.
-#[derive(Debug)]
-struct Time<C> {
     clock: C,
-    /// What the clock showed last.
-    seen: Duration,
-    /// How much time was over then.
-    over: Duration,
-}
-
-impl<C: Clock> Time<C> {
-    fn new(mut clock: C) -> Time<C> {
-        Time {
-            seen: clock.now(),
-            over: Duration::ZERO,
-            clock,
-        }
-    }
-
-    fn now(&mut self) -> Duration {
-        let seen = self.clock.now();
-        self.over += seen.saturating_sub(self.seen);
-        self.seen = seen;
-        self.over
-    }
-
-    /// Returns what the clock will show at that time.
-    fn shown_at(&self, time: Duration) -> Duration {
-        self.seen + time.saturating_sub(self.over)
-    }
-}
-
-/// What a step did.
-#[derive(Clone, Copy, Debug, PartialEq, Eq)]
-enum Step {
-    /// All is over.
-    Over,
-    /// There was something to do.
-    Worked,
-    /// It waited for a tick.
-    Slept,
-    /// Nobody is ready, and nothing was taken.
-    Idle,
+    tick: Duration,
+    pacer: Pacer,
+    /// What [`Clock::worked`] returned last.
+    worked: Option<Duration>,
 }
 
 impl<'h, T> Realtime<'h, T> {
-    /// Serves this house at a tick of that length, which is at least a nanosecond, by the machine's clock. Its time begins now.
+    /// Serves this house at a tick of that length, which is at least a nanosecond, by the machine's
+    /// clock. Its time begins now.
     pub fn new(house: &'h mut House<T>, tick: Duration) -> Realtime<'h, T> {
         Realtime::with_clock(house, tick, Monotonic::default())
     }
 }
 
 impl<'h, T, C: Clock> Realtime<'h, T, C> {
-    /// Serves this house by another clock.
-    pub fn with_clock(house: &'h mut House<T>, tick: Duration, clock: C) -> Realtime<'h, T, C> {
-        let servers = house.servers();
-        let views = (0..servers).filter_map(|server| house.view(server).ok());
-        let (mut unclosed, mut held) = (0, 0);
-        for view in views {
-            unclosed += usize::from(!view.closed);
-            held += view.accepted - view.finished;
-        }
+    /// Serves this house by another clock. Its time begins now.
+    pub fn with_clock(house: &'h mut House<T>, tick: Duration, mut clock: C) -> Realtime<'h, T, C> {
         Realtime {
-            first: house.now(),
+            pacer: house.pace(tick, Rounding::default(), clock.now()),
             house,
-            time: Time::new(clock),
-            tick: tick.max(Duration::from_nanos(1)),
-            rounding: Rounding::Up,
-            carried: vec![Duration::ZERO; servers],
-            unclosed,
-            held,
-            counts: Counts::default(),
+            clock,
+            tick,
+            worked: None,
         }
     }
 
-    /// Charges in this way.
+    /// Charges in this way. Its time begins now, and its counts begin at 0.
     #[must_use]
     pub fn rounding(mut self, rounding: Rounding) -> Realtime<'h, T, C> {
-        self.rounding = rounding;
+        self.pacer = self.house.pace(self.tick, rounding, self.clock.now());
         self
     }
 
@@ -199,142 +129,118 @@ impl<'h, T, C: Clock> Realtime<'h, T, C> {
         self.house
     }
 
-    /// Returns what was seen so far.
-    pub fn counts(&self) -> Counts {
-        self.counts
+    /// Returns how many messages the last step took from the rings, ends included. What is
+    /// [promised](House::promised) of a job can be asked after the step that took it.
+    #[must_use]
+    pub fn taken(&self) -> usize {
+        self.pacer.taken()
     }
 
-    /// Serves until every client has ended or is gone and all jobs are finished, or until the house is told to
-    /// [stop](House::stopper), and calls `work` with each unit.
+    /// Returns what was seen so far. A unit counts from when it ends, at the next question.
+    pub fn counts(&self) -> Counts {
+        self.pacer.counts()
+    }
+
+    /// Serves until every client has ended or is gone and all jobs are finished, or until the house
+    /// is told to [stop](House::stopper), and calls `work` with each unit.
     ///
     /// # Errors
     ///
     /// [`RunError`]. Nothing is lost: it may be called again, and goes on at the same time.
+    ///
+    /// # Panics
+    ///
+    /// If `work` panics. The unit is charged and counted at once, and the panic is passed on.
+    /// Nothing else is lost: it may be called again.
     pub fn run(&mut self, mut work: impl FnMut(Unit<'_, T>)) -> Result<Ended, RunError> {
-        let mut listens = false;
-        while !self.house.is_told_to_stop() {
-            match self.step(&mut work)? {
-                Step::Over => return Ok(Ended::Closed),
-                Step::Idle if listens => self.rest(),
-                Step::Idle => {
-                    self.house.bell().listen(); // and one more step, lest a message came before
-                    listens = true;
-                    continue;
-                }
-                Step::Worked | Step::Slept if listens => self.house.bell().leave(),
-                Step::Worked | Step::Slept => {}
-            }
-            listens = false;
-        }
-        Ok(Ended::Stopped)
-    }
-
-    /// Lets the ticks pass that nobody wanted, takes messages, and does a unit if its tick has come.
-    fn step(&mut self, work: &mut impl FnMut(Unit<'_, T>)) -> Result<Step, RunError> {
-        let over = self.catch_up()?;
-        let took = self.poll()?;
-        if self.unclosed == 0 && self.held == 0 {
-            return Ok(Step::Over);
-        }
-        if self.house.now() - self.first > over {
-            self.sleep();
-            return Ok(Step::Slept);
-        }
-        let worked = self.work(work)?;
-        Ok(if worked || took {
-            Step::Worked
-        } else {
-            Step::Idle
-        })
-    }
-
-    /// Lets the ticks pass that are over, as long as nobody is ready. Returns how many are over in all.
-    fn catch_up(&mut self) -> Result<u64, RunError> {
-        let over = ticks(self.time.now(), self.tick);
-        let behind = over.saturating_sub(self.house.now() - self.first);
-        let idle = self.house.idle_span().unwrap_or(0).min(behind);
-        if idle > 0 {
-            self.house.advance(idle).map_err(|_| RunError::ClockEnd)?;
-        }
-        self.counts.behind = behind - idle;
-        self.counts.most_behind = self.counts.most_behind.max(self.counts.behind);
-        Ok(over)
-    }
-
-    /// Polls each server once. Returns whether a message was taken.
-    fn poll(&mut self) -> Result<bool, RunError> {
-        let mut took = false;
-        for server in 0..self.house.servers() {
-            match self.house.poll(server) {
-                Ok(Poll::Took) => self.held += 1,
-                Ok(Poll::Closed) => self.unclosed -= 1,
-                Ok(Poll::NoMemory) => return Err(RunError::OutOfMemory),
-                Ok(Poll::Nothing | Poll::Full) | Err(_) => continue,
-            }
-            took = true;
-        }
-        Ok(took)
-    }
-
-    /// Runs, and measures and charges the unit. Returns whether there was one.
-    fn work(&mut self, work: &mut impl FnMut(Unit<'_, T>)) -> Result<bool, RunError> {
-        let (server, took) = match self.house.run() {
-            Ran::Idle => return Ok(false),
-            Ran::ClockEnd => return Err(RunError::ClockEnd),
-            Ran::Unit(unit) => {
-                self.held -= u64::from(unit.is_last());
-                let server = unit.server;
-                let began = self.time.now();
-                work(unit);
-                (server, self.time.now() - began)
-            }
-        };
-        self.counts.units += 1;
-        self.counts.longest = self.counts.longest.max(took);
-        self.counts.overruns += u64::from(took > self.tick);
-        let charge = self.charge_for(server, took.saturating_sub(self.tick));
-        match self.house.charge(server, charge) {
-            Ok(()) => self.counts.charged += charge,
-            Err(HouseError::ClockEnd) => return Err(RunError::ClockEnd),
-            Err(error) => unreachable!("the server ran the last unit: {error}"),
-        }
-        Ok(true)
-    }
-
-    /// Returns how many ticks a server is charged for so much time beyond the first tick of a unit.
-    fn charge_for(&mut self, server: usize, beyond: Duration) -> u64 {
-        match self.rounding {
-            Rounding::Up => ticks(
-                beyond + self.tick.saturating_sub(Duration::from_nanos(1)),
-                self.tick,
-            ),
-            Rounding::Carry => {
-                let all = self.carried[server] + beyond;
-                let charge = ticks(all, self.tick);
-                self.carried[server] = all - span(charge, self.tick);
-                charge
+        loop {
+            if let Some(ended) = self.step(&mut work)? {
+                return Ok(ended);
             }
         }
     }
 
-    /// The time at which the house's tick comes.
-    fn due(&self, tick: u64) -> Duration {
-        span(tick - self.first, self.tick)
+    /// Asks one question, and does what follows from it: calls `work` with a unit, or sleeps.
+    /// Returns why there is nothing more to do, or `None` if there is.
+    ///
+    /// Between two steps the house can be looked at: its views, charges and promises, and the
+    /// [counts](Realtime::counts). A unit ends, and is charged, at the next step. If there is none
+    /// for now, call [`done`](Realtime::done). A step sleeps no longer than until the next tick of
+    /// a ready server, the next deadline of one that waits, a send or a stop. A [`Clock`] that
+    /// comes back sooner from [`wait`](Clock::wait) makes that shorter.
+    ///
+    /// ```
+    /// use cbs::realtime::Realtime;
+    /// use cbs::{Mode, Plan};
+    /// use std::time::Duration;
+    ///
+    /// let mut plan = Plan::new();
+    /// plan.admit(2, 5, Mode::Throttled)?;
+    /// let (mut house, mut clients) = plan.open(4, 4)?;
+    /// clients[0].send("wash", 3)?;
+    /// drop(clients);
+    /// let mut realtime = Realtime::new(&mut house, Duration::from_millis(1));
+    /// while realtime.step(|unit| println!("{}", *unit.token))?.is_none() {
+    ///     println!("{} ticks behind", realtime.counts().behind);
+    ///     println!("{:?}", realtime.house().view(0)?);
+    /// }
+    /// # Ok::<(), Box<dyn std::error::Error>>(())
+    /// ```
+    ///
+    /// # Errors
+    ///
+    /// [`RunError`]. Nothing is lost: it may be called again, and goes on at the same time.
+    ///
+    /// # Panics
+    ///
+    /// If `work` panics, as [`run`](Realtime::run) does.
+    pub fn step(&mut self, work: impl FnOnce(Unit<'_, T>)) -> Result<Option<Ended>, RunError> {
+        if self.house.is_told_to_stop() {
+            self.done();
+            return Ok(Some(Ended::Stopped));
+        }
+        let (now, took) = (self.clock.now(), self.took());
+        let ends = EndsByPanic(self);
+        let Realtime {
+            house,
+            clock,
+            pacer,
+            ..
+        } = &mut *ends.0;
+        match house.ask(pacer, now, took) {
+            Next::Do(unit) => work(unit),
+            Next::SleepUntil(time) => clock.sleep_until(time),
+            Next::Listen => {}
+            Next::WaitUntil(time) => clock.wait(house.bell(), time),
+            Next::Over => return Ok(Some(Ended::Closed)),
+            Next::ClockEnd => return Err(RunError::ClockEnd),
+            Next::OutOfMemory => return Err(RunError::OutOfMemory),
+        }
+        Ok(None)
     }
 
-    /// Sleeps until the tick of the house's clock comes.
-    fn sleep(&mut self) {
-        let until = self.time.shown_at(self.due(self.house.now()));
-        self.time.clock.sleep_until(until);
+    /// Ends the unit of the last step now, and charges it. It is for who makes no more steps, for
+    /// now or for ever.
+    pub fn done(&mut self) {
+        let (now, took) = (self.clock.now(), self.took());
+        self.house.end(&mut self.pacer, now, took);
     }
 
-    /// Sleeps until somebody who waits gets a budget, or until the bell rings.
-    fn rest(&mut self) {
-        let next = self.house.idle_span().filter(|_| self.held > 0);
-        let until = next.map(|span| self.due(self.house.now() + span));
-        let until = until.map(|time| self.time.shown_at(time));
-        self.time.clock.wait(self.house.bell(), until);
-        self.house.bell().leave();
+    /// Returns how much the thread has worked since this was called last, if its clock tells.
+    fn took(&mut self) -> Option<Duration> {
+        let before = mem::replace(&mut self.worked, self.clock.worked());
+        Some(self.worked?.saturating_sub(before?))
+    }
+}
+
+/// Ends the unit that is being done if it panics.
+struct EndsByPanic<'r, 'h, T, C: Clock>(&'r mut Realtime<'h, T, C>);
+
+impl<T, C: Clock> Drop for EndsByPanic<'_, '_, T, C> {
+    fn drop(&mut self) {
+        if thread::panicking() {
+            self.0.done();
+        }
     }
 }
 
@@ -347,16 +253,4 @@ impl<C: Clock> Realtime<'_, Job, C> {
     pub fn run_jobs(&mut self) -> Result<Ended, RunError> {
         self.run(|unit| unit.run())
     }
-}
-
-/// Returns how many whole ticks so much time is.
-fn ticks(time: Duration, tick: Duration) -> u64 {
-    u64::try_from(time.as_nanos() / tick.as_nanos()).unwrap_or(u64::MAX)
-}
-
-/// Returns how long so many ticks are.
-fn span(ticks: u64, tick: Duration) -> Duration {
-    let nanos = u128::from(ticks) * tick.as_nanos();
-    let seconds = u64::try_from(nanos / 1_000_000_000).unwrap_or(u64::MAX);
-    Duration::new(seconds, (nanos % 1_000_000_000) as u32)
 }
