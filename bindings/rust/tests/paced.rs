@@ -149,7 +149,7 @@ fn a_question_that_takes_messages_wakes_senders() {
     assert_eq!((sender.join().unwrap(), pacer.counts().units), (1, 2));
 }
 
-// Once it listens the house misses no ring, though it is not waiting yet: of a send, and of who tells
+// Once it listens the house misses no ring, though it does not wait yet: of a send, and of who tells
 // it to stop.
 #[test]
 fn no_ring_is_missed_after_listen() {
