@@ -2,19 +2,23 @@
 //!
 //! `cargo run --release --example bench [ROUNDS]`: 200 if no number is given.
 
+use cbs::realtime::{Next, Rounding};
 use cbs::{Client, House, Mode, Plan, Poll, Ran};
-use std::time::Instant;
+use std::time::{Duration, Instant};
 
 const CALLS: u64 = 2000;
+const TICK: Duration = Duration::from_micros(1);
 
-const NAMES: [&str; 7] = [
+const NAMES: [&str; 9] = [
     "now",
     "run, idle",
     "poll, nothing",
     "idle_span",
+    "next, nobody ready",
     "send, poll and run a job of one unit",
     "run, a unit",
     "turn, a unit",
+    "next, a unit",
 ];
 
 /// Calls with the servers in turn. Nothing is divided here: that would be measured.
@@ -47,7 +51,18 @@ fn load(house: &mut House, clients: &mut [Client]) {
     }
 }
 
-fn round(plan: &Plan) -> [f64; 7] {
+/// Asks what is next, each time a tick later: always a unit, or never.
+fn questions(house: &mut House, units: bool) -> f64 {
+    let mut time = Duration::ZERO;
+    let mut pacer = house.pace(TICK, Rounding::Up, time);
+    timed(house.servers(), |_, _| {
+        time += TICK;
+        let next = house.next(&mut pacer, time);
+        assert_eq!(matches!(next, Next::Do(_)), units);
+    })
+}
+
+fn round(plan: &Plan) -> [f64; 9] {
     let (mut house, mut clients) = plan.open::<u64>(4096, 1024).expect("memory");
     let n = house.servers();
     let now = timed(n, |_, _| assert_eq!(house.now(), 0));
@@ -56,6 +71,7 @@ fn round(plan: &Plan) -> [f64; 7] {
         assert_eq!(house.poll(server), Ok(Poll::Nothing))
     });
     let span = timed(n, |_, _| assert!(house.idle_span().is_some()));
+    let rest = questions(&mut house, false);
     let jobs = timed(n, |server, number| {
         job(&mut house, &mut clients, server, number)
     });
@@ -66,7 +82,8 @@ fn round(plan: &Plan) -> [f64; 7] {
     let turn = timed(n, |_, _| {
         assert!(matches!(house.turn().ran, Ran::Unit(unit) if !unit.is_last()))
     });
-    [now, idle, nothing, span, jobs, unit, turn]
+    let next = questions(&mut house, true);
+    [now, idle, nothing, span, rest, jobs, unit, turn, next]
 }
 
 fn main() {
@@ -80,7 +97,7 @@ fn main() {
             plan.admit(1 + server % 4, 256, Mode::Soft)
                 .expect("it fits");
         }
-        let mut least = [f64::INFINITY; 7];
+        let mut least = [f64::INFINITY; 9];
         for _ in 0..rounds {
             let costs = round(&plan);
             least = std::array::from_fn(|case| least[case].min(costs[case]));

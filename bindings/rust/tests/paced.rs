@@ -149,8 +149,7 @@ fn a_question_that_takes_messages_wakes_senders() {
     assert_eq!((sender.join().unwrap(), pacer.counts().units), (1, 2));
 }
 
-// Since it was told to listen the house misses no ring, though it is not waiting yet: of a send, and
-// of who tells it to stop.
+// Once it listens the house misses no ring, though it does not wait yet: of a send, and of a stop.
 #[test]
 fn no_ring_is_missed_after_listen() {
     let (mut house, mut client) = open(1, 1, Mode::Soft);
