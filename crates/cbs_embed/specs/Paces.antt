@@ -17,9 +17,16 @@ BeginsPace tick r reading old (Ok p) new = (new ≡ old)
     × (paced_of p ≡ record { pace = pacing_begun tick r (core_of old).clock reading; doing = None; listens = false; taken = 0 })
 BeginsPace tick r reading old (Err e) new = ⊥
 
--- at a reading the unit that was being done was paid for, which took so long
+-- At a reading the unit that was being done was paid for, which took so long, and else the pacer is unchanged. A clock that
+-- was not ahead is not ahead, and the moves go on in time
+pub record EndsAt (reading took : ℕ) (p q : Pacer) (old new : TheHouse) : Type 0 where
+  pub pays : PaysUnit counting took (doing_of p) (pacing_seen reading p.pace) old new q.pace
+  pub kept : paced_of q ≡ record (paced_of p) { pace = q.pace; doing = None }
+  pub ahead : IsNotAhead p.pace (core_of old).clock → IsNotAhead q.pace (core_of new).clock
+  pub timed : GoesOnInTime counting took (paced_seen reading p) (core_of old) (core_of new) (paced_of q)
+
 abbrev pub EndsUnit : ℕ → ℕ → Pacer → Pacer → TheHouse → Result (Unit {0}) Refusal → TheHouse → Type 0
-EndsUnit reading took p q old (Ok x) new = PaysUnit counting took (doing_of p) (pacing_seen reading p.pace) old new q.pace × (doing_of q ≡ None)
+EndsUnit reading took p q old (Ok x) new = EndsAt reading took p q old new
 EndsUnit reading took p q old (Err e) new = ⊥
 
 -- At a reading the host was told what it does next, with this token; a unit that was being done took so long. Then the

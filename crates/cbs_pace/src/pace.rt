@@ -131,6 +131,7 @@ impl Pace {
         requires { server < 64 }
         ensures value { result ≡ unit_charge self.old server took }
         ensures kept { self.new ≡ pacing_with_unit self.old server took }
+        ensures within { result * self.old.tick ≤ took }
         ensures paid { took + carried_at self.old server
             ≤ (1 + result) * self.old.tick + carried_at self.new server }
     {

@@ -97,7 +97,7 @@ impl Tick {
         ensures carried { carried.new ≡ carried_of rounding self carried.old took }
         ensures less { carried.new < self }
         ensures paid { took + carried.old ≤ (1 + result) * self + carried.new }
-        ensures few { result ≤ took }
+        ensures within { result * self ≤ took }
     {
         match rounding {
             Rounding::Up => took.saturating_sub(1) / self.nanos(),

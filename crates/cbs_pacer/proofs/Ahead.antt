@@ -11,7 +11,7 @@ use Rattle.cbs_clients.specs.declared.house.House.{House}
 use Rattle.cbs_clients.specs.Houses.{core_of, Made}
 use Rattle.cbs_pacer.specs.declared.next.Next.{Next}
 use Rattle.cbs_pacer.specs.declared.next.Next.TheVariants as next
-use Rattle.cbs_pacer.specs.Paced.{Paced, payment, ticks_due, pace_paid, ticks_to_pass, AsksToSleep, Answers, Does, Prepares, Paces}
+use Rattle.cbs_pacer.specs.Paced.{Paced, payment, ticks_due, pace_paid, ticks_to_pass, AsksToSleep, Answers, Does, PaysUnit, Prepares, Paces}
 use Rattle.cbs_pacer.proofs.Clocks.{core_now, polls_take, ticks_of_all}
 use Rattle.cbs_pace.proofs.Units.{charge_within}
 
@@ -93,6 +93,31 @@ module _ {W A : Type 0} {g : Ghosts W} where
   answers_ahead true q heard hears count old new answer later d h = rw d.1 h
   answers_ahead false q heard hears count old new answer later d h = does_ahead q heard hears count old new answer later d h
 
+  -- once a unit is paid for, the clock is not ahead
+  paid_ahead : (took : ℕ) (doing : Option ℕ) (p q : Pacing) (old new : House W A g) → IsPacing p → PaysUnit g.meaning took doing p old new q
+      → ((core_of old).clock - p.first) * p.tick + took ≤ p.watch.over + p.tick
+      → ((core_of new).clock - p.first) * p.tick ≤ p.watch.over + p.tick
+  paid_ahead took doing p q old new lawful pays start =
+      let c0 = (core_of old).clock in
+      let c1 = (core_of new).clock in
+      let m1 = made_now old new (payment doing pays.ticks) pays.made in
+      let t1 = payment_takes W doing pays.ticks in
+      let due = due_within doing p took c0 lawful in
+      let charged : pays.ticks * p.tick ≤ took =
+      let e : pays.ticks * p.tick ≤ ticks_due doing p took c0 * p.tick = mul-le-mul_right p.tick pays.most in omega (arith, e, due) in
+      let k1 : c1 - p.first ≤ (c0 - p.first) + pays.ticks = omega (arith, m1, t1) in
+      ahead_charged p.tick (c0 - p.first) (c1 - p.first) pays.ticks p.watch.over took start k1 charged
+
+  pub pays_ahead : (took : ℕ) (doing : Option ℕ) (p q : Pacing) (old new : House W A g) → IsPacing p → PaysUnit g.meaning took doing p old new q
+      → ticks_counted p (core_of old).clock * p.tick + took ≤ p.watch.over + p.tick → IsNotAhead q (core_of new).clock
+  pays_ahead took doing p q old new lawful pays start =
+      let tick : q.tick ≡ p.tick = ap (λ (x : Pacing). x.tick) pays.pace ∙ paid_tick doing p took pays.ticks in
+      let first : q.first ≡ p.first = ap (λ (x : Pacing). x.first) pays.pace ∙ paid_first doing p took pays.ticks in
+      let over : q.watch.over ≡ p.watch.over =
+      ap (λ (x : Pacing). x.watch.over) pays.pace ∙ ap (λ (w : Watch). w.over) (paid_watch doing p took pays.ticks) in
+      let a : ((core_of new).clock - p.first) * p.tick ≤ p.watch.over + p.tick = paid_ahead took doing p q old new lawful pays start in
+      rw (tick, first, over) a
+
   module _ (took : ℕ) (doing : Option ℕ) (p q : Pacing) (old new : House W A g) (count : ℕ) (lacks : Bool) (lawful : IsPacing p)
       (h : Prepares g.meaning took doing p old new q count lacks) where
     abbrev counted : House W A g → ℕ
@@ -135,15 +160,7 @@ module _ {W A : Type 0} {g : Ghosts W} where
     -- the clock of a house that was not ahead, but for what the unit took, is not ahead after a call
     prepares_ahead : counted old * p.tick + took ≤ p.watch.over + p.tick → IsNotAhead q (core_of new).clock
     prepares_ahead start =
-        let c0 = (core_of old).clock in
-        let m1 = made_now old h.paid (payment doing h.pays.ticks) h.pays.made in
-        let t1 = payment_takes W doing h.pays.ticks in
-        let due = due_within doing p took c0 lawful in
-        let charged : h.pays.ticks * p.tick ≤ took =
-        let e : h.pays.ticks * p.tick ≤ ticks_due doing p took c0 * p.tick = mul-le-mul_right p.tick h.pays.most in omega (arith, e, due) in
-        let k1 : counted h.paid ≤ counted old + h.pays.ticks = omega (arith, m1, t1) in
-        let a1 = ahead_charged p.tick (counted old) (counted h.paid) h.pays.ticks p.watch.over took start k1 charged in
-        let e = rest_ahead p.tick a1 in let t = same_tick in omega (arith, e, t)
+        let e = rest_ahead p.tick (paid_ahead took doing p h.after old h.paid lawful h.pays start) in let t = same_tick in omega (arith, e, t)
 
   -- a tick that has come is still the house's next tick, or an earlier one, after a call that had no unit to charge
   prepares_due : (took : ℕ) (p q : Pacing) (old new : House W A g) (count : ℕ) (lacks : Bool) → IsPacing p

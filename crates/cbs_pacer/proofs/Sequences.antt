@@ -274,7 +274,13 @@ module _ {W A : Type 0} {g : Ghosts W} (setup : Setup) where
         (λ x. ap (λ (xs : List (Timed W)). ledger_of (rounding_of p.carries) p.tick x xs) (sym e) ∙ (moved x c.0 (b.0 ++ (a.0 ++ N)) (c.2 x) ∙ (moved x b.0 (a.0 ++ N) (b.2 x) ∙ a.2 x))),
       )
 
--- so each call goes on in time
+-- so the end of a unit goes on in time, and so does each question
+pub ends_timed : {W A : Type 0} {g : Ghosts W} (took : ℕ) (p q : Paced) (old new : House W A g) → IsPacing p.pace
+    → ((s : ℕ) → p.doing ≡ Some s → s < 64) → PaysUnit g.meaning took p.doing p.pace old new q.pace → q.doing ≡ None
+    → GoesOnInTime g.meaning took p (core_of old) (core_of new) q
+ends_timed took p q old new lawful few pays none setup N holds t =
+    rw none (pays_timed setup p.pace p.doing took old new q.pace N lawful few pays holds t)
+
 pub paces_timed : {W A : Type 0} {g : Ghosts W} (took : ℕ) (p q : Paced) (old new : House W A g) (answer : Next) → IsPacing p.pace
     → ((s : ℕ) → p.doing ≡ Some s → s < 64) → Paces g.meaning took p old answer new q
     → GoesOnInTime g.meaning took p (core_of old) (core_of new) q

@@ -156,6 +156,8 @@ module _ {W A : Type 0} {g : Ghosts W} where
         → IsIdleSpan work (world_after work M) span
     pub comes : (reading : ℕ) → until < most → until ≤ reading
         → IsDue (pacing_seen reading p) ((core_of h).clock + span)
+    pub not_before : (reading : ℕ) → reading < until
+        → IsDue (pacing_seen reading p) ((core_of h).clock + span) → IsDue p ((core_of h).clock + span)
 
   -- What the host does next, by the house before and after, if there was memory for each message.
   -- `heard` says whether it listened for its bell, `count` how many messages were taken, and

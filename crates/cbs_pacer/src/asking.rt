@@ -109,7 +109,15 @@ impl Pacer {
     pub fn done<W: Work, A: Allocator>(&mut self, house: &mut House<W, A>, reading: u64)
         ensures pays { PaysUnit W.meaning (time_to reading self.old.pace) (doing_of self.old)
             (pacing_seen reading self.old.pace) house.old house.new self.new.pace }
-        ensures done { (doing_of self.new) ≡ None }
+        ensures kept { paced_of self.new ≡ record (paced_of self.old) {
+          pace = self.new.pace;
+          doing = None;
+        } }
+        ensures ahead { IsNotAhead self.old.pace (core_of house.old).clock
+            → IsNotAhead self.new.pace (core_of house.new).clock }
+        ensures timed { GoesOnInTime W.meaning (time_to reading self.old.pace)
+            (paced_seen reading self.old) (core_of house.old) (core_of house.new)
+            (paced_of self.new) }
     {
         let took = self.pace.see(reading);
         self.pay(house, took);
@@ -126,7 +134,15 @@ impl Pacer {
         ensures pays { PaysUnit W.meaning (min took (time_to reading self.old.pace))
             (doing_of self.old) (pacing_seen reading self.old.pace) house.old house.new
             self.new.pace }
-        ensures done { (doing_of self.new) ≡ None }
+        ensures kept { paced_of self.new ≡ record (paced_of self.old) {
+          pace = self.new.pace;
+          doing = None;
+        } }
+        ensures ahead { IsNotAhead self.old.pace (core_of house.old).clock
+            → IsNotAhead self.new.pace (core_of house.new).clock }
+        ensures timed { GoesOnInTime W.meaning (min took (time_to reading self.old.pace))
+            (paced_seen reading self.old) (core_of house.old) (core_of house.new)
+            (paced_of self.new) }
     {
         let over = self.pace.see(reading);
         self.pay(house, took.min(over));
@@ -152,6 +168,7 @@ impl Pacer {
             self.new.pace }
         ensures done { (doing_of self.new) ≡ None }
         ensures listens { self.new.listens ≡ self.old.listens }
+        ensures taken { self.new.taken ≡ self.old.taken }
     {
         if self.does {
             self.does = false;

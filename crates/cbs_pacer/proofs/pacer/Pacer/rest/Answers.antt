@@ -14,7 +14,7 @@ returns-clause-does g c =
     let within = span_within g.W.Work.meaning (core_of a) c.args.span a.housed.history early c.requires.span in
     let sum = c.saturating_add.ensures in
     let at : c.saturating_add.result ≡ (core_of a).clock + c.args.span = omega (arith, sum, clock, within) in (
-      record { span = c.args.span; idle = c.requires.span; comes = rw at at c.due.ensures.comes },
+      record { span = c.args.span; idle = c.requires.span; comes = rw at at c.due.ensures.comes; not_before = rw at at c.due.ensures.not_before },
       refl,
       c.requires.none,
       c.if-not-self.false,
