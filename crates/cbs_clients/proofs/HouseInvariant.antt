@@ -131,7 +131,7 @@ module _ {W : Type 0} (work : Meaning W) (h h' : Held W) (ms ms' : List (Message
     last = k.last;
   })
 
-module _ {W A : Type 0} (work : Meaning W) (core core' : CoreHeld W) (rings rings' : Rings W A) (shelves shelves' : List Shelved)
+module _ {W A : Type 0} {g : Ghosts W} (work : Meaning W) (core core' : CoreHeld W) (rings rings' : Rings W A g) (shelves shelves' : List Shelved)
     (h : Housed work core rings shelves) where
   -- one server is changed, and the others are as before
   pub housed_one :
@@ -235,7 +235,7 @@ no_jobs n m [] e k = refl
 no_jobs n m (w ∷ ws) e k = absurd (omega (arith, e, k))
 
 -- if every completion that was announced was taken, no job is held
-pub held_none : {W A : Type 0} (work : Meaning W) (core : CoreHeld W) (rings : Rings W A) (shelves : List Shelved) → Housed work core rings shelves
+pub held_none : {W A : Type 0} {g : Ghosts W} (work : Meaning W) (core : CoreHeld W) (rings : Rings W A g) (shelves : List Shelved) → Housed work core rings shelves
     → All IsComplete shelves → (s : ℕ) → (held_at core s).jobs ≡ []
 held_none work core rings shelves h complete s = elim (cases_lt s (length core.faces)) [
   | inl l ↦

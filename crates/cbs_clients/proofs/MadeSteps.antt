@@ -27,7 +27,8 @@ use Rattle.cbs_host.specs.declared.poll.Poll.{Poll}
 use Rattle.cbs_host.specs.declared.poll.Poll.TheVariants.{Nothing, Took, Closed, Full, OutOfMemory, NoSuchServer}
 use Rattle.cbs_results.specs.Collected.{AllShelvesSame}
 use Rattle.cbs_clients.specs.Rings.{Looked}
-use Rattle.cbs_clients.specs.Houses.{Seat, core_of, rings_of, received, known, results_of, handed_of, Made, LooksOnly, Collects, Polled}
+use Rattle.cbs_clients.specs.Houses.{Seat, seat_at, core_of, rings_of, received, known, results_of, handed_of, Made, LooksOnly, SameHouse, Collects, Polled}
+use Rattle.cbs_clients.specs.Calls.{PollOf}
 use Rattle.cbs_clients.specs.Messages.{jobs_among}
 use Rattle.cbs_clients.specs.Steps.{message_of, messages_of}
 use Rattle.cbs_clients.proofs.StepMessages.{messages_of-append}
@@ -70,6 +71,21 @@ module _ {W A : Type 0} {g : Ghosts W} where
   -- and finds no result
   pub looks_results : (a b : House W A g) → LooksOnly a b → (s : ℕ) → results_of b s ≡ results_of a s
   looks_results a b l s = ap (λ (x : Seat W). x.results) (l.seats s).same
+
+  -- nothing changed but whose rings will be looked at
+  pub same_by_ends : (a b : House W A g) → b.core ≡ a.core → b.collector ≡ a.collector → b.rings.ends ≡ a.rings.ends → SameHouse a b
+  same_by_ends a b core shelves ends = record { core = core; rings = rw ends refl; seats = λ s. rw (shelves, ends) refl }
+
+  -- nothing changed, so no look found anything
+  pub looks_same : (a b : House W A g) → SameHouse a b → LooksOnly a b
+  looks_same a b h = record {
+    core = h.core;
+    rings = h.rings;
+    seats = λ s. let e = ap (λ (x : Seat W). x.known) (h.seats s) in record {
+      same = h.seats s ∙ ap (λ ms. record (seat_at a s) { known = ms }) (sym e);
+      known = ([], append-nil (known a s) ∙ sym e);
+    };
+  }
 
 module _ {W A : Type 0} {g : Ghosts W} (work : Meaning W) where
   -- a poll of a server that is there does not say that there is none
@@ -115,6 +131,10 @@ module _ {W A : Type 0} {g : Ghosts W} (work : Meaning W) where
       handed = ap (λ (x : Seat W). x.handed) (l.seats s).same;
     };
   }
+
+  -- a house of which nothing changed made no step
+  pub made_same : (a b : House W A g) → SameHouse a b → Made work a b []
+  made_same a b h = made_look a b (looks_same a b h)
 
   -- looks at the rings, and more room, are no step
   pub made_room : (a b : House W A g) → Looked a.rings b.rings → Follows work (core_of a) (core_of b) [] → AllShelvesSame a.collector b.collector
@@ -214,3 +234,27 @@ module _ {W A : Type 0} {g : Ghosts W} (work : Meaning W) where
     k.3 ∙ ap (λ ms. length (jobs_among ms)) ((m.seats s).received ∙ append-nil (received a s)),
   )
   polled_after a b c s Closed m e k = (made_both a b c [] (step.Close s ∷ []) m k.0, accepts_same (core_of a) (core_of b) s e k.1)
+
+  -- the same poll, if nothing changed after it
+  polled_same : (a b c : House W A g) (s : ℕ) (p : Poll) → SameHouse b c → Polled work a s p b → Polled work a s p c
+  polled_same a b c s Nothing h k =
+      (made_both a b c [] [] k.0 (made_same b c h), k.1, rw (ap (λ (x : Seat W). x.known) (h.seats s)) k.2)
+  polled_same a b c s Full h k =
+      (made_both a b c [] [] k.0 (made_same b c h), k.1, rw (ap (λ (x : Seat W). x.known) (h.seats s)) k.2, k.3)
+  polled_same a b c s OutOfMemory h k =
+      (made_both a b c [] [] k.0 (made_same b c h), k.1, rw (ap (λ (x : Seat W). x.known) (h.seats s)) k.2)
+  polled_same a b c s NoSuchServer h k = (made_both a b c [] [] k.0 (made_same b c h), k.1)
+  polled_same a b c s (Took q) h k = (k.0, made_both a b c (step.Submit s k.0 ∷ []) [] k.1 (made_same b c h), k.2, k.3)
+  polled_same a b c s Closed h k = (made_both a b c (step.Close s ∷ []) [] k.0 (made_same b c h), k.1)
+
+  pub poll_same : (a b c : House W A g) (s : ℕ) (p : Poll) → s < length (core_of a).faces → PollOf work s a p b → SameHouse b c → PollOf work s a p c
+  poll_same a b c s p within k h =
+      let polled = polled_same a b c s p h k.polled in
+      record {
+        polled = polled;
+        on_time = λ on. rw h.core (k.on_time on);
+        paced = λ on. rw h.core (k.paced on);
+        rings = h.rings ∙ k.rings;
+        results = λ t. ap (λ (x : Seat W). x.results) (h.seats t) ∙ k.results t;
+        same = polled_there a c s p polled within;
+      }

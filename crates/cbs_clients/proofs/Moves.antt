@@ -158,7 +158,7 @@ module _ {W A : Type 0} {g : Ghosts W} (work : Meaning W) where
   serves_rings a b m = moves_rings work (MayServe work) a b m.moves.0 m.moves.1
 
 module _ {W A : Type 0} {g : Ghosts W} (work : Meaning W) (may : ℕ → ℕ → Type 0) where
-  serves_made : (a b : House W A g) → Made work a b [] → ServesBy work may a b
+  pub serves_made : (a b : House W A g) → Made work a b [] → ServesBy work may a b
   serves_made a b m = record { moves = (0, by_made work may (MayServe work) a b m) }
 
   -- steps of serving, one list after another

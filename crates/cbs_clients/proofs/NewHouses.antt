@@ -7,6 +7,9 @@ use Rattle.std.proofs.lemmas.List.FromFn.{map-range_with_len_more, length-range_
 use Rattle.std.proofs.lemmas.List.Elements.{recursion_from_All, All-weaker, All-head, All-tail}
 use Rattle.std.proofs.lemmas.Option.{slice_get-get_or}
 use Rattle.rtrb.specs.Ring.{received, known_items}
+use Rattle.rtrb.specs.declared.AnyItems.{AnyItems}
+use Rattle.rtrb.specs.declared.consumer.Consumer.{Consumer}
+use Rattle.cbs_clients.specs.declared.message.Message.{Message}
 use Rattle.cbs_job.specs.Work.{Meaning}
 use Rattle.cbs_job.specs.declared.work.Work.{Ghosts}
 use Rattle.cbs_core.specs.Agreement.{Agrees}
@@ -24,11 +27,15 @@ use Rattle.cbs_clients.proofs.Places.{at_all, at_map}
 
 -- nothing was popped, and nothing seen
 module _ {W A : Type 0} where
-  pub new_rings : (r : Rings W A) → All IsNewEnd r.ends.items → (s : ℕ) → (received_in r s ≡ []) × (known_in r s ≡ [])
+  pub new_known : (es : List (Consumer (Message W) A AnyItems)) → All IsNewEnd es → (s : ℕ) → get_or (map known_items es) s [] ≡ []
+  new_known es a s = at_all known_items [] es (recursion_from_All (λ c. known_items c ≡ []) es (All-weaker IsNewEnd (λ c. known_items c ≡ []) (λ c k. k.known) es a)) s
+
+module _ {W A : Type 0} {g : Ghosts W} where
+  pub new_rings : (r : Rings W A g) → All IsNewEnd r.ends.items → (s : ℕ) → (received_in r s ≡ []) × (known_in r s ≡ [])
   new_rings r a s =
       let es = r.ends.items in (
         at_all received [] es (recursion_from_All (λ c. received c ≡ []) es (All-weaker IsNewEnd (λ c. received c ≡ []) (λ c k. k.received) es a)) s,
-        at_all known_items [] es (recursion_from_All (λ c. known_items c ≡ []) es (All-weaker IsNewEnd (λ c. known_items c ≡ []) (λ c k. k.known) es a)) s,
+        new_known es a s,
       )
 
 module _ {W : Type 0} (work : Meaning W) where
@@ -43,7 +50,7 @@ module _ {W : Type 0} (work : Meaning W) where
       last = refl;
     }
 
-    pub housed_new : {A : Type 0} (r : Rings W A) (shelves : List Shelved)
+    pub housed_new : {A : Type 0} {g : Ghosts W} (r : Rings W A g) (shelves : List Shelved)
         → length (rings_in r) ≡ length core.faces → length shelves ≡ length core.faces → All IsNewEnd r.ends.items
         → ((s : ℕ) → SameShelf no_shelf (shelf_at shelves s)) → 0 < setup.backlog
         → Housed work core r shelves

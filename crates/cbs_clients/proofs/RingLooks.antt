@@ -1,7 +1,7 @@
 -- Looks at the rings.
 use Rattle.std.proofs.Common.{◌≡◌, ℕ, ◌<◌, List, [], ◌∷◌, ◌++◌, length, map, get_or, refl, ap, sym, ◌∙◌, subst, arith, inl, inr, zero, suc}
 use Rattle.std.proofs.Math.ListN.{set}
-use Rattle.std.proofs.lemmas.List.{append-nil, append_assoc, map-set, set-get_or, length-map}
+use Rattle.std.proofs.lemmas.List.{append-nil, nil_from_length, append_assoc, map-set, set-get_or, length-map}
 use Rattle.std.proofs.lemmas.Bool.{cases_eq}
 use Rattle.std.proofs.lemmas.Option.{slice_get_within}
 use mathlib.Core.List.{IsPrefix}
@@ -11,6 +11,10 @@ use Rattle.rtrb.specs.Ring.{SameConsumer, IsPair, ConsumerLooked, received, know
 use Rattle.cbs_job.specs.declared.work.Work.{Ghosts}
 use Rattle.cbs_clients.specs.declared.client.Client.{Client}
 use Rattle.cbs_clients.specs.Rings.{Ring, consumer_ring, producer_ring, rings_in, known_in, Looked}
+use Rattle.cbs_clients.specs.Marks.{KnowsNoOthers}
+use Rattle.cbs_clients.specs.declared.marks.Marked.{Marked}
+use Rattle.cbs_clients.specs.declared.message.Message.{Message}
+use Rattle.rtrb.specs.declared.AnyItems.{AnyItems}
 use Rattle.cbs_clients.specs.declared.rings.Rings.{Rings}
 use Rattle.cbs_clients.specs.Clients.{server_of, ring_of, IsOpened}
 use Rattle.cbs_clients.proofs.Places.{at_read, at_set_same, at_set_other, at_set_kept, shown}
@@ -73,12 +77,34 @@ module _ {T A P : Type 0} where
         known = λ s. at_set_longer known_items es i x y s l r h.2;
       }
 
+module _ {W A : Type 0} {g : Ghosts W} where
+  -- one of the ends looked at its ring
+  pub looked_by :
+      (a b : Rings W A g) (i : ℕ) (x y : Consumer (Message W) A AnyItems) → i < length (rings_in a) → y ≡ get_or a.ends.items i y → ConsumerLooked y x
+      → b.ends.items ≡ set a.ends.items i x → Looked a b
+  looked_by a b i x y l r h e =
+      let p = looked_at a.ends.items i x y (omega (arith, l, length-map a.ends.items (consumer_ring))) r h in
+      record {
+        rings = ap (map consumer_ring) e ∙ p.rings;
+        received = λ s. rw e (p.received s);
+        known = λ s. rw e (p.known s);
+      }
+
+-- no message is known of the servers that are not marked, after a look that found none
+pub still_quiet : {T A P : Type 0} (m : Marked) (es : List (Consumer T A P)) (i : ℕ) (x : Consumer T A P) → i < length es
+    → KnowsNoOthers m es → length (known_items x) ≡ 0 → KnowsNoOthers m (set es i x)
+still_quiet m es i x l quiet none s below unmarked =
+    elim (cases_eq s i) [
+      | inl e ↦ at_set_same known_items es i x s [] l e ∙ nil_from_length (known_items x) none
+      | inr n ↦ at_set_other known_items es i x s [] n ∙ quiet s below unmarked
+    ]
+
 -- rings that nobody looked at
-pub no_look : {W A : Type 0} (r : Rings W A) → Looked r r
+pub no_look : {W A : Type 0} {g : Ghosts W} (r : Rings W A g) → Looked r r
 no_look r = record { rings = refl; received = λ s. refl; known = λ s. prefix_refl (known_in r s) }
 
 -- a server of which a message was seen has a ring
-pub seen_within : {W A : Type 0} (r : Rings W A) (s : ℕ) → 0 < length (known_in r s) → s < length (rings_in r)
+pub seen_within : {W A : Type 0} {g : Ghosts W} (r : Rings W A g) (s : ℕ) → 0 < length (known_in r s) → s < length (rings_in r)
 seen_within r s some = let l = within_shown known_items r.ends.items s some in omega (arith, l, length-map r.ends.items (consumer_ring))
 
 pub ruleset ringed = (shown, prefix_refl, at_set_longer, map_set_kept, within_shown, same_ring)

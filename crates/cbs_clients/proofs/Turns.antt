@@ -37,7 +37,8 @@ use Rattle.cbs_clients.specs.Turns.{GoesOn, StaysBy, IsNumbered, TakesOwnTurn, l
 use Rattle.cbs_clients.specs.UntilClosed.{meets_end, turn_stop, LackedMemory, RunStops}
 use Rattle.cbs_clients.specs.Steps.{MayServe}
 use Rattle.cbs_clients.proofs.Metered.{paid_is, unit_later}
-use Rattle.cbs_clients.proofs.Moves.{by_step, by_run, needed_quiet, serves_none, serves_then, serves_poll}
+use Rattle.cbs_clients.proofs.Moves.{by_step, by_run, needed_quiet, serves_none, serves_made, serves_then, serves_poll}
+use Rattle.cbs_clients.proofs.MadeSteps.{made_same}
 
 module _ {W A : Type 0} {g : Ghosts W} where
   -- what a run did to the results, after calls that left them
@@ -140,7 +141,7 @@ module _ {W A : Type 0} {g : Ghosts W} (work : Meaning W) where
 module _ {W A : Type 0} {g : Ghosts W} (work : Meaning W) (may : ℕ → ℕ → Type 0) where
   -- polls, one after another, are steps of serving
   serves_answered : (s : ℕ) (a b : House W A g) (ps : List Poll) → Answered work s a ps b → ServesBy work may a b
-  serves_answered s a b [] h = rw h (serves_none work may a)
+  serves_answered s a b [] h = serves_made work may a b (made_same work a b h)
   serves_answered s a b (p ∷ ps) h = serves_then work may a h.0 b (serves_poll work may a h.0 s p h.1) (serves_answered (s + 1) h.0 b ps h.2)
 
   -- what a turn does after its polls are steps of serving

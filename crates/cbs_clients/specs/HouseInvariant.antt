@@ -1,5 +1,6 @@
 -- The invariant of a house.
 use Rattle.std.specs.Prelude.{ℕ, ◌≡◌, ◌+◌, ◌<◌, ◌≤◌, true, List, ◌++◌, drop, length, map}
+use Rattle.cbs_job.specs.declared.work.Work.{Ghosts}
 use Rattle.cbs_job.specs.Work.{Meaning, whole}
 use Rattle.cbs_core.specs.Held.{Held, CoreHeld, held_at}
 use Rattle.cbs_clients.specs.declared.message.Message.{Message}
@@ -23,7 +24,7 @@ pub record KeepsServer {W : Type 0} (work : Meaning W) (h : Held W) (received : 
 
 -- What is true of the parts of a house. There are a ring and a shelf for each server, and a place for the result of
 -- each accepted job. There is a history that the core agrees with, and the backlog is at least one job
-pub record Housed {W A : Type 0} (work : Meaning W) (core : CoreHeld W) (rings : Rings W A) (collector : List Shelved) : Type 0 where
+pub record Housed {W A : Type 0} {g : Ghosts W} (work : Meaning W) (core : CoreHeld W) (rings : Rings W A g) (collector : List Shelved) : Type 0 where
   pub ring_count : length (rings_in rings) ≡ length core.faces
   pub shelf_count : length collector ≡ length core.faces
   pub servers : (s : ℕ) → s < length core.faces → KeepsServer work (held_at core s) (received_in rings s) (shelf_at collector s).handed

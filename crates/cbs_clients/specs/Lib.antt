@@ -1,4 +1,5 @@
 pub mod Messages
+pub mod Marks
 pub mod Rings
 pub mod Clients
 pub mod Steps

@@ -7,7 +7,7 @@ use Rattle.cbs_steps.specs.declared.step.Step.{Step}
 use Rattle.cbs_clients.specs.declared.house.House.{House}
 use Rattle.cbs_host.specs.declared.poll.Poll.{Poll}
 use Rattle.cbs_host.specs.declared.poll.Poll.TheVariants as poll
-use Rattle.cbs_clients.specs.Houses.{Made, Polled, core_of, result_count}
+use Rattle.cbs_clients.specs.Houses.{Made, Polled, SameHouse, core_of, result_count}
 use Rattle.cbs_clients.specs.Meters.{IsRunPaid}
 use Rattle.cbs_clients.specs.Steps.{pops}
 use Rattle.cbs_core.specs.Agreement.{Agrees}
@@ -53,7 +53,7 @@ module _ {W A : Type 0} {g : Ghosts W} where
   -- the house polled servers one after another, from server s on, one for each of these results, and the polls had
   -- these results
   abbrev pub Answered : Meaning W → ℕ → House W A g → List Poll → House W A g → Type 0
-  Answered work s old [] new = new ≡ old
+  Answered work s old [] new = SameHouse old new
   Answered work s old (p ∷ ps) new = (next : House W A g) × Polled work old s p next × Answered work (s + 1) next ps new
 
   -- The house polled its servers below `servers`, each once, in the order of their numbers. The polls took so many

@@ -6,6 +6,7 @@ ghost use Rattle.cbs_clients.specs.Messages.{jobs_among, has_end, end_is_last};
 ghost use Rattle.cbs_clients.specs.declared.message.Message.TheVariants.{End};
 
 use crate::error::SendError;
+use crate::marks::Mark;
 use crate::message::Message;
 use cbs_host::Pause;
 use cbs_job::{Task, Work};
@@ -23,6 +24,7 @@ pub struct Client<W: Work, A: Allocator = Global> {
     count: u64,
     ended: bool,
     pub(crate) ring: Producer<Message<W>, A>,
+    mark: Mark<A>,
     ghost counted: { count ≡ length (jobs_among (sent ring)) },
     ghost marked: { ended ≡ has_end (sent ring) },
     ghost last: { end_is_last (sent ring) ≡ true },
@@ -36,8 +38,10 @@ impl<W: Work, A: Allocator> Drop for Client<W, A> {
             count: _,
             ended,
             mut ring,
+            mark,
         } = self;
         end_at_last(ended, &mut ring);
+        mark.leave();
     }
 }
 
@@ -75,8 +79,8 @@ impl<W: Work, A: Allocator> Client<W, A> {
     ghost use Rattle.cbs_clients.specs.Clients.{server_of, ring_of, sent_by, free, slots_of, HasSlot, HasNoSlot, SameClient};
     ghost use Rattle.cbs_clients.specs.declared.message.Message.TheVariants.{Job, End};
 
-    /// Returns the client of a server, with its end of a new ring.
-    pub(crate) fn new(server: u16, ring: Producer<Message<W>, A>) -> Client<W, A>
+    /// Returns the client of a server, with its end of a new ring, and the mark of its server.
+    pub(crate) fn new(server: u16, ring: Producer<Message<W>, A>, mark: Mark<A>) -> Client<W, A>
         requires { (sent ring ≡ []) × (0 < known_free ring) }
         ensures server { server_of result ≡ server }
         ensures ring { ring_of result ≡ producer_ring ring }
@@ -88,6 +92,7 @@ impl<W: Work, A: Allocator> Client<W, A> {
             count: 0,
             ended: false,
             ring,
+            mark,
         }
     }
 
@@ -191,6 +196,7 @@ impl<W: Work, A: Allocator> Client<W, A> {
         ensures free { free self.old ≡ free self.new + 1 }
     {
         self.ring.push_reserved(Message::Job(task));
+        self.mark.leave();
         let number = self.count;
         self.count += 1;
         number
@@ -225,6 +231,7 @@ impl<W: Work, A: Allocator> Client<W, A> {
         ensures free { free self.old ≡ free self.new + 1 }
     {
         self.ring.push_reserved(Message::End);
+        self.mark.leave();
         self.ended = true;
     }
 

@@ -5,6 +5,7 @@ mod client;
 mod drain;
 mod error;
 mod house;
+mod marks;
 mod message;
 mod open;
 mod results;

@@ -16,6 +16,7 @@ ghost use Rattle.cbs_rate.specs.Limits.{most_ring, most_servers};
 use crate::client::Client;
 use crate::error::HouseError;
 use crate::house::House;
+use crate::marks::{Marked, Marks};
 use crate::rings::Rings;
 use cbs_core::{Core, MAX_BACKLOG};
 use cbs_job::Work;
@@ -133,18 +134,26 @@ fn open_rings<W: Work, A: Allocator + Copy>(
     servers: u16,
     slots: usize,
 ) -> Result<(Rings<W, A>, Vec<Client<W, A>, A>), AllocError>
-    requires { slots ≤ most_ring }
+    requires few { servers ≤ most_servers }
+    requires slots { slots ≤ most_ring }
     ensures new { IfOk result (λ r. All IsNewEnd r.0.ends.items) }
     ensures rings { IfOk result (λ r. rings_in r.0 ≡ map ring_of r.1.items) }
     ensures clients { IfOk result (λ r. map server_of r.1.items ≡ range_with_len 0 servers) }
     ensures unused { IfOk result (λ r. All (IsUnused slots) r.1.items) }
 {
+    let marks = Marks::new(alloc)?;
     let mut ends = Vec::with_capacity(alloc, usize::from(servers))?;
     let mut clients = Vec::with_capacity(alloc, usize::from(servers))?;
     for server in 0..servers {
         let (producer, consumer) = RingBuffer::new(alloc, slots + 1)?;
+        let mark = marks.of(server)?;
         ends.push_reserved(consumer);
-        clients.push_reserved(Client::new(server, producer));
+        clients.push_reserved(Client::new(server, producer, mark));
     }
-    Ok((Rings { ends }, clients))
+    let rings = Rings {
+        ends,
+        marks,
+        marked: Marked { bits: 0 },
+    };
+    Ok((rings, clients))
 }

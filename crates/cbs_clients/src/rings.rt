@@ -1,6 +1,11 @@
 //! The house's ends of the rings.
 
+ghost use Rattle.std.specs.Prelude.{◌≤◌, length};
+ghost use Rattle.cbs_rate.specs.Limits.{most_servers};
+ghost use Rattle.cbs_clients.specs.Marks.{KnowsNoOthers};
+
 use crate::client::Client;
+use crate::marks::{Marked, Marks};
 use crate::message::Message;
 use cbs_job::Work;
 use rtrb::{Consumer, Producer};
@@ -10,12 +15,17 @@ use std::alloc::{Allocator, Global};
 #[derive(Drop)]
 pub struct Rings<W: Work, A: Allocator = Global> {
     pub(crate) ends: Vec<Consumer<Message<W>, A>, A>,
+    pub(crate) marks: Marks<A>,
+    // The servers that may have a message in their rings, by the marks that were taken.
+    pub(crate) marked: Marked,
+    ghost few: { length ends.items ≤ most_servers },
+    ghost quiet: { KnowsNoOthers marked ends.items },
 }
 
 impl<W: Work, A: Allocator> Rings<W, A> {
-    ghost use Rattle.std.specs.Prelude.{ℕ, ◌≡◌, ◌≢◌, ◌<◌, ◌≤◌, ◌+◌, [], ◌∷◌, ◌++◌, length, slice_get, Some, IsTrue, ◌↔◌};
+    ghost use Rattle.std.specs.Prelude.{ℕ, ◌≡◌, ◌≢◌, ◌<◌, ◌≤◌, ◌+◌, [], ◌∷◌, ◌++◌, length, slice_get, Some, IfSome, IfNone, IsTrue, ◌↔◌};
     ghost use Rattle.rtrb.specs.Ring.{sent, ProducerLooked};
-    ghost use Rattle.cbs_clients.specs.Rings.{producer_ring, rings_in, received_in, known_in, Looked};
+    ghost use Rattle.cbs_clients.specs.Rings.{producer_ring, rings_in, received_in, known_in, KnowsNone, Looked};
     ghost use Rattle.cbs_clients.specs.Clients.{server_of, sent_by, free, SameClient, IsOpened};
 
     /// Returns how many rings there are.
@@ -34,7 +44,44 @@ impl<W: Work, A: Allocator> Rings<W, A> {
         ensures value { IsTrue result ↔ (length (known_in self.new server) ≡ 0) }
     {
         let end = &mut self.ends[server];
-        end.is_empty()
+        let empty = end.is_empty();
+        if !empty {
+            self.marked = self.marked.add(server);
+        }
+        empty
+    }
+
+    /// Takes the marks that clients left, and keeps them.
+    pub fn take_marks(&mut self)
+        ensures { self.new.ends ≡ self.old.ends }
+    {
+        self.marked = self.marked.with(self.marks.take());
+    }
+
+    /// Returns the first server from `first` on that may have a message in its ring, or `None` if there is none.
+    pub fn first_marked(&self, first: u16) -> Option<u16>
+        ensures some { IfSome result (λ server. (first ≤ server)
+            × (server < length (rings_in self.now)) × KnowsNone self.now first server) }
+        ensures none { IfNone result (KnowsNone self.now first (length (rings_in self.now))) }
+    {
+        let server = self.marked.first_from(first)?;
+        if usize::from(server) < self.ends.len() {
+            Some(server)
+        } else {
+            None
+        }
+    }
+
+    /// Forgets the mark of a server if no message of it is known. Its ring must have been looked at since the marks
+    /// were taken.
+    pub fn unmark(&mut self, server: u16)
+        requires { server < length (rings_in self.old) }
+        ensures { self.new.ends ≡ self.old.ends }
+    {
+        let index = usize::from(server);
+        if self.ends[index].cached_slots() == 0 {
+            self.marked = self.marked.remove(index);
+        }
     }
 
     /// Pops the next message of a server and returns it. The message must have been seen.
@@ -75,7 +122,11 @@ impl<W: Work, A: Allocator> Rings<W, A> {
         ensures lawful { received_in self.new server ++ known_in self.new server ≡ sent ring.new }
     {
         let end = &mut self.ends[server];
-        end.slots_beside(ring)
+        let slots = end.slots_beside(ring);
+        if slots > 0 {
+            self.marked = self.marked.add(server);
+        }
+        slots
     }
 
     /// Returns how many messages wait in a client's ring.

@@ -1,9 +1,10 @@
 //! Meters: how many ticks a unit took after its first tick.
 
-ghost use Rattle.std.specs.Prelude.{ℕ, ◌≡◌, ◌<◌, ◌↔◌, IsSome};
+ghost use Rattle.std.specs.Prelude.{ℕ, ◌≡◌, ◌<◌, IsSome, MatchOption};
 ghost use Rattle.std.specs.Duration.{as_nanos};
-ghost use Rattle.cbs_host.specs.Meters.{NothingBeyond, IsMeasuredFrom, ticks_between};
+ghost use Rattle.cbs_host.specs.Meters.{NothingBeyond, IsMeasuredFrom, nanos_of, ticks_between};
 
+use cbs_pace::Tick;
 use std::time::{Clock, Duration};
 
 /// A meter. It is asked after each unit for how long the unit ran, on the house's thread. The server that got the unit
@@ -55,14 +56,13 @@ impl Meter for NoMeter {
 
 /// The meter that measures each unit by a runtime's clock, [`Clock::monotonic`], in ticks of one length.
 ///
-/// A unit of at most one tick is charged nothing. A longer unit is charged each further tick that it began. If the
-/// clock cannot be read, or goes back, nothing is charged.
+/// A unit of at most one tick is charged nothing. A longer unit is charged each further tick that it began, as a pacer
+/// that rounds up charges it ([`Tick::beyond`]). If the clock cannot be read, or goes back, nothing is charged.
 pub struct ClockMeter<'a, R: Clock> {
     rt: &'a R,
-    tick: Duration,
+    tick: Tick,
     // The time when the unit began, if the clock could be read.
     begun: Option<Duration>,
-    ghost long: { 0 < as_nanos tick },
 }
 
 // Dropped by hand, so that the drop has no requirement on the runtime.
@@ -77,13 +77,13 @@ impl<'a, R: Clock> Drop for ClockMeter<'a, R> {
 }
 
 impl<'a, R: Clock> ClockMeter<'a, R> {
-    /// Returns a meter with ticks of this length, or `None` if the length is zero.
+    /// Returns a meter with ticks of this length, or `None` if the length is zero. A tick of more than `u64::MAX`
+    /// nanoseconds, 584 years, counts as one of so many.
     pub fn new(rt: &'a R, tick: Duration) -> Option<ClockMeter<'a, R>>
-        ensures { IsSome result ↔ (0 < as_nanos tick) }
+        ensures { MatchOption result (as_nanos tick ≡ 0)
+            (λ meter. (0 < as_nanos tick) × (meter.tick ≡ nanos_of tick)) }
     {
-        if tick.is_zero() {
-            return None;
-        }
+        let tick = Tick::new(nanos(tick))?;
         Some(ClockMeter {
             rt,
             tick,
@@ -107,16 +107,20 @@ impl<'a, R: Clock> Meter for ClockMeter<'a, R> {
     }
 }
 
-/// Returns how many ticks a unit took after its first tick, by the readings of a clock before and after it: rounded up,
-/// and at most `u64::MAX`. It is 0 if a reading is missing, or if the clock went back.
-fn beyond_between(begun: Option<Duration>, ended: Option<Duration>, tick: Duration) -> u64
-    requires { 0 < as_nanos tick }
+/// Returns so much time in nanoseconds, at most `u64::MAX`.
+fn nanos(time: Duration) -> u64
+    ensures { result ≡ nanos_of time }
+{
+    time.as_nanos().min(u128::from(u64::MAX)) as u64
+}
+
+/// Returns how many ticks a unit took after its first tick, by the readings of a clock before and after it, rounded up.
+/// It is 0 if a reading is missing, or if the clock went back.
+fn beyond_between(begun: Option<Duration>, ended: Option<Duration>, tick: Tick) -> u64
     ensures { result ≡ ticks_between begun ended tick }
 {
     let (Some(begun), Some(ended)) = (begun, ended) else {
         return 0;
     };
-    let took = ended.saturating_sub(begun);
-    let further = took.as_nanos().saturating_sub(1) / tick.as_nanos();
-    further.min(u128::from(u64::MAX)) as u64
+    tick.beyond(nanos(ended.saturating_sub(begun)))
 }

@@ -89,6 +89,15 @@ impl Tick {
         }
     }
 
+    /// Returns how many ticks of `took` nanoseconds lie after the first. A tick that was begun counts
+    /// whole.
+    pub fn beyond(self, took: u64) -> u64
+        ensures value { result ≡ charge_of Rounding.Up self 0 took }
+        ensures within { result * self ≤ took }
+    {
+        took.saturating_sub(1) / self.nanos()
+    }
+
     /// Returns how many ticks a unit is charged that took `took` nanoseconds, if its server carries
     /// `carried`. Then `carried` is what the server carries to its next unit.
     pub fn charge(self, rounding: Rounding, carried: &mut u64, took: u64) -> u64
@@ -100,7 +109,7 @@ impl Tick {
         ensures within { result * self ≤ took }
     {
         match rounding {
-            Rounding::Up => took.saturating_sub(1) / self.nanos(),
+            Rounding::Up => self.beyond(took),
             Rounding::Carry => {
                 let beyond = *carried + took.saturating_sub(self.nanos());
                 *carried = beyond % self.nanos();

@@ -1,9 +1,10 @@
-use Rattle.std.proofs.Common.{◌≡◌, [], ◌∷◌, ap, length, length-append, sym, ◌∙◌, arith, rules}
+use Rattle.std.proofs.Common.{◌≡◌, [], ◌∷◌, ap, length, map, length-append, sym, ◌∙◌, arith, rules}
 use Rattle.cbs_clients.specs.Clients.{server_of, ring_of}
 use Rattle.cbs_clients.specs.Opened.{IsNewEnd, IsUnused}
 use Rattle.cbs_clients.specs.Rings.{consumer_ring}
 use Rattle.cbs_clients.proofs.RingLooks.{pair_ring}
-use Rattle.cbs_clients.proofs.NewHouses.{map_pushed, numbered_pushed}
+use Rattle.cbs_clients.proofs.NewHouses.{map_pushed, numbered_pushed, new_known, same_count}
+use Rattle.std.proofs.lemmas.List.{length-map}
 use Rattle.cbs_lists.proofs.Lists.{All_pushed}
 use Rattle.cbs_clients.proofs.open.open_rings.Goals as goal
 
@@ -11,8 +12,8 @@ pub loop-server-preserved : goal.loop-server-preserved
 loop-server-preserved g c =
     let l = c.loop-server in
     let made = c.in_ok-producer in
-    let client = c.new-in-loop-server.result in
-    let is = c.new-in-loop-server.ensures in
+    let client = c.new-in-loop-server-2.result in
+    let is = c.new-in-loop-server-2.ensures in
     let ends' = c.push_reserved.new.self.items in
     let clients' = c.push_reserved-in-loop-server.new.self.items in
     let a = c.push_reserved.ensures.items in
@@ -41,11 +42,11 @@ returns-clause-clients g c = let e : c.loop-server.server ≡ c.args.servers = o
 pub returns-clause-unused : goal.returns-clause-unused
 returns-clause-unused g c = c.loop-server.invariant.unused
 
-pub returns-in_err-ends-clause-unused : goal.returns-in_err-ends-clause-unused
-returns-in_err-ends-clause-unused g c = search rules
-
-pub returns-in_err-clients-clause-unused : goal.returns-in_err-clients-clause-unused
-returns-in_err-clients-clause-unused g c = search rules
-
-pub returns-in_err-producer-clause-unused : goal.returns-in_err-producer-clause-unused
-returns-in_err-producer-clause-unused g c = search rules
+pub invariant_of-rings : goal.invariant_of-rings
+invariant_of-rings g c =
+    let l = c.loop-server in
+    let count = same_count ring_of server_of (map consumer_ring l.ends.items) l.clients.items l.server l.invariant.rings l.invariant.clients in
+    record {
+      few = omega (arith, count, length-map l.ends.items consumer_ring, c.requires.few, l.auto.server-end);
+      quiet = λ s below unmarked. new_known l.ends.items l.invariant.new s;
+    }

@@ -2,6 +2,7 @@ use Rattle.std.proofs.Common.{◌≡◌, ℕ, ◌<◌, List, length, inl, inr, a
 use Rattle.std.proofs.lemmas.Bool.{cases_lt}
 use Rattle.std.proofs.lemmas.List.{get_or_past}
 use Rattle.cbs_core.specs.Held.{CoreHeld, held_at}
+use Rattle.cbs_job.specs.declared.work.Work.{Ghosts}
 use Rattle.cbs_job.specs.Work.{Meaning}
 use Rattle.cbs_results.specs.Collected.{IsWaiting, Shelved, no_shelf, shelf_at}
 use Rattle.cbs_clients.specs.HouseInvariant.{Housed}
@@ -11,7 +12,7 @@ use Rattle.cbs_clients.proofs.HouseInvariant.{counts, held_none}
 use Rattle.cbs_clients.proofs.house.House.is_busy.Goals as goal
 
 -- a server of which a completion was announced and not taken holds a job
-held_some : {W A : Type 0} (work : Meaning W) (core : CoreHeld W) (rings : Rings W A) (shelves : List Shelved) → Housed work core rings shelves
+held_some : {W A : Type 0} {g : Ghosts W} (work : Meaning W) (core : CoreHeld W) (rings : Rings W A g) (shelves : List Shelved) → Housed work core rings shelves
     → (s : ℕ) → IsWaiting (shelf_at shelves s) → 0 < length (held_at core s).jobs
 held_some work core rings shelves h s waits = elim (cases_lt s (length shelves)) [
   | inl l ↦
