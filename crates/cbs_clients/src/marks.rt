@@ -56,7 +56,11 @@ pub struct Mark<A: Allocator = Global> {
 impl<A: Allocator> Mark<A> {
     /// Says that the client has sent something. The message must be in the ring before.
     pub fn leave(&self) {
-        self.word.fetch_or(self.bit, Ordering::SeqCst);
+        // A bit that is still set was not taken, so the house has yet to look. Only this mark sets the bit, so the sum
+        // sets it and no other.
+        if self.word.load(Ordering::SeqCst) & self.bit == 0 {
+            self.word.fetch_add(self.bit, Ordering::SeqCst);
+        }
     }
 }
 
