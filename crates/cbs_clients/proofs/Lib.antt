@@ -1,5 +1,4 @@
 pub mod Messages
-pub mod Shifted
 pub mod Tries
 pub mod Places
 pub mod RingLooks

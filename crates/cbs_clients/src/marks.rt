@@ -1,7 +1,6 @@
 //! Marks: who may have sent something, so that a house looks only at the rings of those.
 
-ghost use Rattle.std.specs.Prelude.{ℕ, ◌≡◌, ◌≢◌, ◌≤◌, ◌<◌, IfSome, IfNone};
-ghost use Rattle.std.specs.Int.{bit_at};
+ghost use Rattle.std.specs.Prelude.{ℕ, ◌≡◌, ◌≢◌, ◌<◌, false};
 ghost use Rattle.cbs_clients.specs.Marks.{IsUnmarked};
 
 use std::alloc::{AllocError, Allocator, Global};
@@ -42,6 +41,10 @@ impl<A: Allocator> Marks<A> {
 
     /// Returns the servers whose bits are set, and clears all bits.
     pub fn take(&self) -> u64 {
+        // Mostly no bit is set. Then the clients keep the word in their caches.
+        if self.word.load(Ordering::SeqCst) == 0 {
+            return 0;
+        }
         self.word.swap(0, Ordering::SeqCst)
     }
 }
@@ -100,19 +103,11 @@ impl Marked {
         }
     }
 
-    /// Returns the first of these servers from `first` on, or `None` if there is none.
-    pub fn first_from(self, first: u16) -> Option<u16>
-        ensures some { IfSome result (λ server. (first ≤ server) × (server < 64)
-            × ((s : ℕ) → first ≤ s → s < server → IsUnmarked self s)) }
-        ensures none { IfNone result ((s : ℕ) → first ≤ s → s < 64 → IsUnmarked self s) }
+    /// Returns whether a server is one of these.
+    pub fn has(self, server: usize) -> bool
+        requires { server < 64 }
+        ensures { result ≡ false → IsUnmarked self server }
     {
-        if first >= 64 {
-            return None;
-        }
-        let rest = self.bits >> first;
-        if rest == 0 {
-            return None;
-        }
-        Some(first + rest.trailing_zeros() as u16)
+        (self.bits >> server) & 1 == 1
     }
 }

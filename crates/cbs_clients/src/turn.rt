@@ -20,10 +20,11 @@ pub struct Polls {
     pub out_of_memory: bool,
 }
 
-/// Polls each server once, in the order of their numbers. Returns what the polls did.
+/// Polls each server once, in the order of their numbers, and passes each result to the gate. Returns what the polls
+/// did.
 ///
-/// It looks only at the rings of servers whose clients left a mark, since a client leaves one after each message. Of the
-/// others no message is seen. It passes the result of each look to the gate.
+/// It looks only at the rings of clients that left a mark, as each does after it has sent something. Of the others no
+/// message is seen.
 pub fn poll_each<G: Gate, W: Work, A: Allocator>(gate: &G, house: &mut House<W, A>) -> Polls
     ensures polled { PollsEach W.meaning (length (core_of house.old).faces) house.old house.new
         result.took result.out_of_memory }
@@ -31,16 +32,15 @@ pub fn poll_each<G: Gate, W: Work, A: Allocator>(gate: &G, house: &mut House<W, 
     ensures few { result.took ≤ length (core_of house.old).faces }
     ensures most { result.took ≤ most_servers }
 {
+    let servers = house.servers();
     house.take_marks();
     let mut took = 0;
     let mut out_of_memory = false;
-    let mut next = 0;
-    while let Some(server) = house.first_marked(next) {
+    for server in 0..servers {
         let poll = house.poll_marked(server);
         gate.answered(server, poll);
         took += count(poll);
         out_of_memory |= is_out_of_memory(poll);
-        next = server + 1;
     }
     Polls {
         took,

@@ -1,9 +1,15 @@
-use Rattle.std.proofs.Common.{refl}
-use Rattle.cbs_clients.proofs.MadeSteps.{same_by_ends, poll_same}
+use Rattle.std.proofs.Common.{refl, inr, arith}
+use Rattle.cbs_host.specs.declared.poll.Poll.TheVariants.{Nothing}
+use Rattle.cbs_clients.proofs.MadeSteps.{made_nothing}
 use Rattle.cbs_clients.proofs.house.House.poll_marked.Goals as goal
 
-pub returns-in-Nothing : goal.returns-in-Nothing
-returns-in-Nothing g c =
-    let polled = c.poll-poll.new.self in
-    poll_same g.W.Work.meaning c.args.self.now polled _ c.args.server c.poll-poll.result c.requires c.poll-poll.ensures
-    (same_by_ends polled _ refl refl c.unmark.ensures)
+pub returns-else-is_marked : goal.returns-else-is_marked
+returns-else-is_marked g c =
+    record {
+      polled = (made_nothing g.W.Work.meaning _, c.requires, inr (c.is_marked.ensures c.if-is_marked.false));
+      on_time = λ on. on;
+      paced = λ on. on;
+      rings = refl;
+      results = λ s. refl;
+      same = λ no. refl;
+    }
