@@ -1,4 +1,5 @@
 pub mod Messages
+pub mod Shifted
 pub mod Tries
 pub mod Places
 pub mod RingLooks

@@ -72,6 +72,10 @@ module _ {W A : Type 0} {g : Ghosts W} where
   pub looks_results : (a b : House W A g) → LooksOnly a b → (s : ℕ) → results_of b s ≡ results_of a s
   looks_results a b l s = ap (λ (x : Seat W). x.results) (l.seats s).same
 
+  -- nothing of a house changed
+  pub same_here : (a : House W A g) → SameHouse a a
+  same_here a = record { core = refl; rings = refl; seats = λ s. refl }
+
   -- nothing changed but whose rings will be looked at
   pub same_by_ends : (a b : House W A g) → b.core ≡ a.core → b.collector ≡ a.collector → b.rings.ends ≡ a.rings.ends → SameHouse a b
   same_by_ends a b core shelves ends = record { core = core; rings = rw ends refl; seats = λ s. rw (shelves, ends) refl }

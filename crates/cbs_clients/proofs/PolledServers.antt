@@ -1,6 +1,8 @@
 -- The polls of a turn, one after another.
-use Rattle.std.proofs.Common.{◌≡◌, ℕ, ◌+◌, ◌≤◌, Bool, true, false, ◌||◌, List, [], ◌∷◌, ◌++◌, length, refl, ap, sym, ◌∙◌, arith, length-append}
-use Rattle.std.proofs.lemmas.List.{append-nil}
+use Rattle.std.proofs.Common.{◌≡◌, ℕ, ◌+◌, ◌≤◌, ◌<◌, zero, suc, inr, subst, Bool, true, false, ◌||◌, List, [], ◌∷◌, ◌++◌, length, refl, ap, sym, ◌∙◌, arith, length-append}
+use Rattle.std.proofs.lemmas.List.{append-nil, length-map}
+use Rattle.cbs_rate.specs.Limits.{most_servers}
+use Rattle.cbs_clients.specs.Rings.{consumer_ring}
 use Rattle.std.specs.List.{list_any}
 use Rattle.cbs_job.specs.Work.{Meaning}
 use Rattle.cbs_job.specs.declared.work.Work.{Ghosts}
@@ -10,10 +12,10 @@ use Rattle.cbs_clients.specs.declared.house.House.{House}
 use Rattle.cbs_host.specs.declared.poll.Poll.{Poll}
 use Rattle.cbs_host.specs.declared.poll.Poll.TheVariants.{Nothing, Took, Closed, Full, OutOfMemory, NoSuchServer}
 use Rattle.cbs_clients.specs.HouseInvariant.{Housed}
-use Rattle.cbs_clients.specs.Houses.{core_of, rings_of, Made, SameHouse, Polled}
+use Rattle.cbs_clients.specs.Houses.{core_of, rings_of, known, Made, SameHouse, Polled}
 use Rattle.cbs_clients.specs.Turns.{lacks_memory, Answered, PollsEach, popped_by, ArePolls}
 use Rattle.cbs_clients.specs.Steps.{pops}
-use Rattle.cbs_clients.proofs.MadeSteps.{made_both, made_same, polled_after}
+use Rattle.cbs_clients.proofs.MadeSteps.{made_nothing, made_both, made_same, polled_after, same_here}
 use Rattle.cbs_clients.proofs.StepMessages.{pops-append}
 
 or_assoc : (a b c : Bool) → (a || (b || c)) ≡ ((a || b) || c)
@@ -61,10 +63,6 @@ module _ {W A : Type 0} {g : Ghosts W} (work : Meaning W) where
   pub polled_none : (a b : House W A g) → SameHouse a b → PollsEach work 0 a b 0 false
   polled_none a b h = record { answers = []; all = refl; answered = h; memory = refl; polls = []; each = tt; made = made_same work a b h; count = refl }
 
-  -- nothing of a house changed
-  same_here : (a : House W A g) → SameHouse a a
-  same_here a = record { core = refl; rings = refl; seats = λ s. refl }
-
   -- one more poll after others
   answered_more : (s n : ℕ) (a b c : House W A g) (ps : List Poll) (p : Poll) → s + length ps ≡ n → Answered work s a ps b → Polled work b n p c
       → Answered work s a (ps ++ p ∷ []) c
@@ -105,6 +103,23 @@ module _ {W A : Type 0} {g : Ghosts W} (work : Meaning W) where
   polled_next a b c n k m (Took number) h q = polled_one a b c n k m (Took number) (Submit n q.0) refl (λ m l. (l, omega arith, tt)) h q.1 q
   polled_next a b c n k m Closed h q = polled_one a b c n k m Closed (Close n) refl (λ m l. (l, omega arith, tt)) h q.0 q
 
+  -- a server of which no message is seen is polled as any other
+  polled_quiet : (a b : House W A g) (n k : ℕ) (m : Bool) → PollsEach work n a b k m → n < length (core_of b).faces → known b n ≡ []
+      → PollsEach work (n + 1) a b k m
+  polled_quiet a b n k m h within none =
+      let more = polled_next a b b n k m Nothing h (made_nothing work b, within, inr none) in
+      let same : k + 0 ≡ k = omega arith in
+      subst (λ (x : Bool). PollsEach work (n + 1) a b k x) (or_false m) (rw same at more)
+
+  -- no message is seen of several servers
+  pub polled_quietly : (a b : House W A g) (n k : ℕ) (m : Bool) (more : ℕ) → PollsEach work n a b k m → n + more ≤ length (core_of b).faces
+      → ((s : ℕ) → n ≤ s → s < n + more → known b s ≡ []) → PollsEach work (n + more) a b k m
+  polled_quietly a b n k m zero h within none = let e : n ≡ n + 0 = omega arith in subst (λ (x : ℕ). PollsEach work x a b k m) e h
+  polled_quietly a b n k m (suc more) h within none =
+      let before = polled_quietly a b n k m more h (omega (arith, within)) (λ s from below. none s from (omega (arith, below))) in
+      let e : n + more + 1 ≡ n + suc more = omega arith in
+      subst (λ (x : ℕ). PollsEach work x a b k m) e (polled_quiet a b (n + more) k m before (omega (arith, within)) (none (n + more) (omega arith) (omega arith)))
+
   pub polled_few : (a b : House W A g) (n k : ℕ) (m : Bool) → PollsEach work n a b k m → k ≤ n
   polled_few a b n k m h = let l = polls_few 0 n h.polls (omega arith) h.each in let e = h.count in omega (arith, l, e)
 
@@ -112,3 +127,7 @@ module _ {W A : Type 0} {g : Ghosts W} (work : Meaning W) where
   pub same_servers : (a b : House W A g) → Housed work a.core a.rings a.collector → Housed work b.core b.rings b.collector → rings_of b ≡ rings_of a
       → length (core_of b).faces ≡ length (core_of a).faces
   same_servers a b p q e = sym q.ring_count ∙ (ap length e ∙ p.ring_count)
+
+  -- there are few servers
+  pub few_servers : (a : House W A g) → Housed work a.core a.rings a.collector → length (core_of a).faces ≤ most_servers
+  few_servers a p = let e = p.ring_count in let few = a.rings.few in omega (arith, e, few, length-map a.rings.ends.items (consumer_ring))

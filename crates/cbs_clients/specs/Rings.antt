@@ -1,5 +1,5 @@
 -- The rings: to which ring an end belongs, and what a contract says about the house's ends.
-use Rattle.std.specs.Prelude.{ℕ, ◌≡◌, List, [], map, get_or}
+use Rattle.std.specs.Prelude.{ℕ, ◌≡◌, ◌≤◌, ◌<◌, List, [], map, get_or}
 use mathlib.Core.List.{IsPrefix}
 use denote.RawPtr.{Ptr}
 use Rattle.rtrb.specs.Ring.{received, known_items}
@@ -35,6 +35,10 @@ module _ {W A : Type 0} {g : Ghosts W} where
   -- the messages that were seen in the ring of server s and not yet popped, oldest first
   abbrev pub known_in : Rings W A g → ℕ → List (Message W)
   known_in r s = get_or (map known_items r.ends.items) s []
+
+  -- no message is known of the servers from `first` to below `end`
+  abbrev pub KnowsNone : Rings W A g → ℕ → ℕ → Type 0
+  KnowsNone r first end = (s : ℕ) → first ≤ s → s < end → known_in r s ≡ []
 
   -- the house looked at its rings: nothing was popped, and no message seen before is lost
   pub record Looked (old new : Rings W A g) : Type 0 where

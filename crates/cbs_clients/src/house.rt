@@ -40,6 +40,7 @@ impl<W: Work, A: Allocator> House<W, A> {
     ghost use Rattle.cbs_clients.specs.Calls.{PollOf, RunOf, RunBy, AsksMeter, AdvanceOf, ChargeOf, ChargesLast, ChargesOf, ClockOf, SpanOf, ViewOf, PromiseOf, LooksAtRing};
     ghost use Rattle.cbs_clients.specs.Clients.{server_of, sent_by, IsOpened};
     ghost use Rattle.cbs_clients.specs.Houses.{core_of, rings_of, received, known, IsHousePaced, KeepsResults, Made, LooksOnly, Polled, SameHouse, CanTake};
+    ghost use Rattle.cbs_clients.specs.Rings.{KnowsNone};
     ghost use Rattle.cbs_clients.specs.Meters.{charge_steps};
 
     /// Returns how many servers there are, at most 64. They are numbered from 0.
@@ -106,23 +107,18 @@ impl<W: Work, A: Allocator> House<W, A> {
         self.rings.take_marks();
     }
 
-    /// Polls a server, as [`poll`](House::poll) does, but looks at its ring only if its client left a mark that was
-    /// taken.
-    #[inline(always)]
-    pub(crate) fn poll_marked(&mut self, server: u16) -> Poll
-        requires { server < length (core_of self.old).faces }
-        ensures { PollOf W.meaning server self.old result self.new }
+    /// Returns the first server from `first` on that may have a message in its ring, or `None` if there is none.
+    pub(crate) fn first_marked(&self, first: u16) -> Option<u16>
+        ensures some { IfSome result (λ server. (first ≤ server)
+            × (server < length (core_of self.now).faces) × KnowsNone self.now.rings first server) }
+        ensures none { IfNone result
+            (KnowsNone self.now.rings first (length (core_of self.now).faces)) }
     {
-        if self.rings.is_marked(server) {
-            self.poll_and_unmark(server)
-        } else {
-            Poll::Nothing
-        }
+        self.rings.first_marked(first)
     }
 
     /// Polls a server, as [`poll`](House::poll) does. If no message is seen, its mark is forgotten.
-    #[inline(never)]
-    fn poll_and_unmark(&mut self, server: u16) -> Poll
+    pub(crate) fn poll_and_unmark(&mut self, server: u16) -> Poll
         requires { server < length (core_of self.old).faces }
         ensures { PollOf W.meaning server self.old result self.new }
     {

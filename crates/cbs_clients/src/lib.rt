@@ -20,4 +20,4 @@ pub use error::{HouseError, SendError};
 pub use house::House;
 pub use message::Message;
 pub use open::{open_house, open_house_of};
-pub use turn::{Polls, Turn, poll_each};
+pub use turn::{Polls, Turn, poll_each, poll_marked};

@@ -1,6 +1,7 @@
 //! Marks: who may have sent something, so that a house looks only at the rings of those.
 
-ghost use Rattle.std.specs.Prelude.{ℕ, ◌≡◌, ◌≢◌, ◌<◌, false};
+ghost use Rattle.std.specs.Prelude.{ℕ, ◌≡◌, ◌≢◌, ◌≤◌, ◌<◌, IfSome, IfNone};
+ghost use Rattle.std.specs.Int.{bit_at};
 ghost use Rattle.cbs_clients.specs.Marks.{IsUnmarked};
 
 use std::alloc::{AllocError, Allocator, Global};
@@ -103,11 +104,19 @@ impl Marked {
         }
     }
 
-    /// Returns whether a server is one of these.
-    pub fn has(self, server: usize) -> bool
-        requires { server < 64 }
-        ensures { result ≡ false → IsUnmarked self server }
+    /// Returns the first of these servers from `first` on, or `None` if there is none.
+    pub fn first_from(self, first: u16) -> Option<u16>
+        ensures some { IfSome result (λ server. (first ≤ server) × (server < 64)
+            × ((s : ℕ) → first ≤ s → s < server → IsUnmarked self s)) }
+        ensures none { IfNone result ((s : ℕ) → first ≤ s → s < 64 → IsUnmarked self s) }
     {
-        (self.bits >> server) & 1 == 1
+        if first >= 64 {
+            return None;
+        }
+        let rest = self.bits >> first;
+        if rest == 0 {
+            return None;
+        }
+        Some(first + rest.trailing_zeros() as u16)
     }
 }

@@ -23,9 +23,9 @@ pub struct Rings<W: Work, A: Allocator = Global> {
 }
 
 impl<W: Work, A: Allocator> Rings<W, A> {
-    ghost use Rattle.std.specs.Prelude.{ℕ, ◌≡◌, ◌≢◌, ◌<◌, ◌≤◌, ◌+◌, [], ◌∷◌, ◌++◌, length, slice_get, Some, false, IsTrue, ◌↔◌};
+    ghost use Rattle.std.specs.Prelude.{ℕ, ◌≡◌, ◌≢◌, ◌<◌, ◌≤◌, ◌+◌, [], ◌∷◌, ◌++◌, length, slice_get, Some, IfSome, IfNone, IsTrue, ◌↔◌};
     ghost use Rattle.rtrb.specs.Ring.{sent, ProducerLooked};
-    ghost use Rattle.cbs_clients.specs.Rings.{producer_ring, rings_in, received_in, known_in, Looked};
+    ghost use Rattle.cbs_clients.specs.Rings.{producer_ring, rings_in, received_in, known_in, KnowsNone, Looked};
     ghost use Rattle.cbs_clients.specs.Clients.{server_of, sent_by, free, SameClient, IsOpened};
 
     /// Returns how many rings there are.
@@ -58,12 +58,18 @@ impl<W: Work, A: Allocator> Rings<W, A> {
         self.marked = self.marked.with(self.marks.take());
     }
 
-    /// Returns whether a message of a server may be in its ring, by the marks that were taken.
-    pub fn is_marked(&self, server: u16) -> bool
-        requires { server < length (rings_in self.now) }
-        ensures { result ≡ false → known_in self.now server ≡ [] }
+    /// Returns the first server from `first` on that may have a message in its ring, or `None` if there is none.
+    pub fn first_marked(&self, first: u16) -> Option<u16>
+        ensures some { IfSome result (λ server. (first ≤ server)
+            × (server < length (rings_in self.now)) × KnowsNone self.now first server) }
+        ensures none { IfNone result (KnowsNone self.now first (length (rings_in self.now))) }
     {
-        self.marked.has(usize::from(server))
+        let server = self.marked.first_from(first)?;
+        if usize::from(server) < self.ends.len() {
+            Some(server)
+        } else {
+            None
+        }
     }
 
     /// Forgets the mark of a server if no message of it is known. Its ring must have been looked at since the marks

@@ -7,7 +7,7 @@ ghost use Rattle.cbs_rate.specs.Limits.{most_servers};
 
 use crate::house::House;
 use cbs_core::{LIMIT, Ran};
-use cbs_host::{Gate, Meter, NoMeter, OpenGate, Poll};
+use cbs_host::{Gate, Meter, NoMeter, Poll};
 use cbs_job::Work;
 use std::alloc::Allocator;
 
@@ -22,9 +22,6 @@ pub struct Polls {
 
 /// Polls each server once, in the order of their numbers, and passes each result to the gate. Returns what the polls
 /// did.
-///
-/// It looks only at the rings of clients that left a mark, as each does after it has sent something. Of the others no
-/// message is seen.
 pub fn poll_each<G: Gate, W: Work, A: Allocator>(gate: &G, house: &mut House<W, A>) -> Polls
     ensures polled { PollsEach W.meaning (length (core_of house.old).faces) house.old house.new
         result.took result.out_of_memory }
@@ -32,15 +29,40 @@ pub fn poll_each<G: Gate, W: Work, A: Allocator>(gate: &G, house: &mut House<W, 
     ensures few { result.took ≤ length (core_of house.old).faces }
     ensures most { result.took ≤ most_servers }
 {
-    let servers = house.servers();
-    house.take_marks();
     let mut took = 0;
     let mut out_of_memory = false;
-    for server in 0..servers {
-        let poll = house.poll_marked(server);
+    for server in 0..house.servers() {
+        let poll = house.poll(server);
         gate.answered(server, poll);
         took += count(poll);
         out_of_memory |= is_out_of_memory(poll);
+    }
+    Polls {
+        took,
+        out_of_memory,
+    }
+}
+
+/// Polls each server once, in the order of their numbers. Returns what the polls did.
+///
+/// It looks only at the rings of clients that left a mark, as each does after it has sent something. Of the others no
+/// message is seen.
+pub fn poll_marked<W: Work, A: Allocator>(house: &mut House<W, A>) -> Polls
+    ensures polled { PollsEach W.meaning (length (core_of house.old).faces) house.old house.new
+        result.took result.out_of_memory }
+    ensures results { KeepsResults house.old house.new }
+    ensures few { result.took ≤ length (core_of house.old).faces }
+    ensures most { result.took ≤ most_servers }
+{
+    house.take_marks();
+    let mut took = 0;
+    let mut out_of_memory = false;
+    let mut next = 0;
+    while let Some(server) = house.first_marked(next) {
+        let poll = house.poll_and_unmark(server);
+        took += count(poll);
+        out_of_memory |= is_out_of_memory(poll);
+        next = server + 1;
     }
     Polls {
         took,
@@ -109,7 +131,7 @@ impl<W: Work, A: Allocator> House<W, A> {
     pub fn turn_metered<M: Meter>(&mut self, meter: &mut M) -> Turn
         ensures { TurnBy W.meaning M.may_tell self.old result self.new }
     {
-        let polls = poll_each(&OpenGate, self);
+        let polls = poll_marked(self);
         let (ran, advanced) = self.go_on_if_busy(meter);
         Turn {
             took: polls.took,

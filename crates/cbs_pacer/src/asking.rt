@@ -14,7 +14,7 @@ ghost use Rattle.cbs_pacer.specs.Timed.{GoesOnInTime};
 
 use crate::next::Next;
 use crate::pacer::Pacer;
-use cbs_clients::{House, OpenGate, poll_each};
+use cbs_clients::{House, poll_marked};
 use cbs_core::{LIMIT, Ran};
 use cbs_job::Work;
 use cbs_pace::{Counts, Pace, Rounding, Tick};
@@ -200,7 +200,7 @@ impl Pacer {
     {
         self.pay(house, took);
         self.catch_up(house);
-        let polls = poll_each(&OpenGate, house);
+        let polls = poll_marked(house);
         self.taken = polls.took as u32;
         polls.out_of_memory
     }

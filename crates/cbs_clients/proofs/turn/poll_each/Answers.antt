@@ -1,26 +1,16 @@
-use Rattle.std.proofs.Common.{◌≡◌, length, ap, ◌∙◌, arith}
-use Rattle.cbs_clients.specs.Houses.{core_of, Seat}
-use Rattle.cbs_clients.proofs.PolledServers.{polled_none, polled_next, polled_few, same_servers}
+use Rattle.std.proofs.Common.{◌≡◌, length, refl, ◌∙◌, arith}
+use Rattle.cbs_clients.specs.Houses.{core_of}
+use Rattle.cbs_clients.proofs.PolledServers.{polled_none, polled_next, polled_few}
+use Rattle.cbs_clients.proofs.MadeSteps.{same_here}
 use Rattle.cbs_clients.proofs.turn.poll_each.Goals as goal
 
 pub loop-server-init : goal.loop-server-init
-loop-server-init g c =
-    let same = c.take_marks.ensures in
-    record {
-      polled = polled_none g.W.Work.meaning c.args.house.now c.take_marks.new.self same;
-      results = λ s. ap (λ (x : Seat _). x.results) (same.seats s);
-    }
-
-pub poll_marked-poll-requires : goal.poll_marked-poll-requires
-poll_marked-poll-requires g c =
-    let l = c.loop-server in
-    let same = same_servers g.W.Work.meaning c.args.house.now l.house c.args.house.now.housed l.house.housed l.invariant.polled.made.rings in
-    omega (arith, same, c.loop-server-test.true, c.servers-servers.ensures.value)
+loop-server-init g c = record { polled = polled_none g.W.Work.meaning c.args.house.now c.args.house.now (same_here c.args.house.now); results = λ s. refl }
 
 pub loop-server-preserved : goal.loop-server-preserved
 loop-server-preserved g c =
     let l = c.loop-server in
-    let p = c.poll_marked-poll in
+    let p = c.poll-poll in
     record {
       polled =
           rw (c.count-took.ensures.value, c.is_out_of_memory-out_of_memory.ensures)
@@ -32,23 +22,23 @@ pub overflow_add-took : goal.overflow_add-took
 overflow_add-took g c =
     let l = c.loop-server in
     let few = polled_few g.W.Work.meaning c.args.house.now l.house l.server l.took l.out_of_memory l.invariant.polled in
-    omega (arith, few, c.count-took.ensures.most, c.loop-server-test.true, c.servers-servers.ensures.few)
+    omega (arith, few, c.count-took.ensures.most, c.loop-server-test.true, c.servers-server-end.ensures.few)
 
 pub returns-clause-polled : goal.returns-clause-polled
 returns-clause-polled g c =
     let l = c.loop-server in
     let all : l.server ≡ length (core_of c.args.house.now).faces =
-    omega (arith, c.loop-server-test.false, l.auto.server-end, c.servers-servers.ensures.value) in
+    omega (arith, c.loop-server-test.false, l.auto.server-end, c.servers-server-end.ensures.value) in
     rw (← all) l.invariant.polled
 
 pub returns-clause-few : goal.returns-clause-few
 returns-clause-few g c =
     let l = c.loop-server in
     let few = polled_few g.W.Work.meaning c.args.house.now l.house l.server l.took l.out_of_memory l.invariant.polled in
-    omega (arith, few, l.auto.server-end, c.servers-servers.ensures.value)
+    omega (arith, few, l.auto.server-end, c.servers-server-end.ensures.value)
 
 pub returns-clause-most : goal.returns-clause-most
 returns-clause-most g c =
     let l = c.loop-server in
     let few = polled_few g.W.Work.meaning c.args.house.now l.house l.server l.took l.out_of_memory l.invariant.polled in
-    omega (arith, few, l.auto.server-end, c.servers-servers.ensures.few)
+    omega (arith, few, l.auto.server-end, c.servers-server-end.ensures.few)

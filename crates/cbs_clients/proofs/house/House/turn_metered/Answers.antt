@@ -9,7 +9,7 @@ returns g c =
     let work = g.W.Work.meaning in
     let may = g.M.Meter.may_tell in
     let a = c.args.self.now in
-    let p = c.poll_each-polls in
+    let p = c.poll_marked-polls in
     let o = c.go_on_if_busy-ran in
     let steps = polls_serve work may a p.new.house o.new.self _ p.result.took o.result.1 p.result.out_of_memory o.result.0 p.ensures.polled o.ensures.goes_on in
     record {

@@ -7,5 +7,5 @@ returns-clause-prepares g c = record {
   pays = c.pay.ensures.pays;
   caught_up = c.catch_up.new.house;
   passes = c.catch_up.ensures.passes;
-  polls = c.poll_each-polls.ensures.polled;
+  polls = c.poll_marked-polls.ensures.polled;
 }
