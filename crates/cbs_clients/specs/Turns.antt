@@ -50,14 +50,14 @@ module _ {W : Type 0} where
   ArePolls first count (Charge s n ∷ xs) = ⊥
 
 module _ {W A : Type 0} {g : Ghosts W} where
-  -- the house polled servers one after another, from server s on, one for each of these results, and the polls had
-  -- these results
+  -- The house polled servers one after another, from server s on, one for each of these results, and the polls had
+  -- these results. Nothing else changed
   abbrev pub Answered : Meaning W → ℕ → House W A g → List Poll → House W A g → Type 0
   Answered work s old [] new = SameHouse old new
   Answered work s old (p ∷ ps) new = (next : House W A g) × Polled work old s p next × Answered work (s + 1) next ps new
 
-  -- The house polled its servers below `servers`, each once, in the order of their numbers. The polls took so many
-  -- messages, and `out_of_memory` says whether one of them was out of memory for a message.
+  -- The house polled its servers below `servers`, each once, in the order of their numbers. A poll that knows of no
+  -- message may be answered by Nothing without a look at the ring. The polls took so many messages, and `out_of_memory` says whether one of them was out of memory for a message.
   pub record PollsEach (work : Meaning W) (servers : ℕ) (old new : House W A g) (took : ℕ) (out_of_memory : Bool) : Type 0 where
     pub answers : List Poll
     pub all : length answers ≡ servers

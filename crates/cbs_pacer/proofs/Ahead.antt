@@ -1,8 +1,8 @@
 -- A house's clock is ahead of its time by a tick at most.
-use Rattle.std.proofs.Common.{◌≡◌, ◌≤◌, ◌<◌, ◌+◌, ◌-◌, ◌*◌, ◌/◌, ℕ, zero, suc, Bool, true, false, List, [], ◌∷◌, length, Option, Some, None, refl, ap, ◌∙◌, arith, subst}
+use Rattle.std.proofs.Common.{◌≡◌, ◌≤◌, ◌<◌, ◌+◌, ◌-◌, ◌*◌, ◌/◌, ℕ, min, zero, suc, Bool, true, false, List, [], ◌∷◌, length, Option, Some, None, refl, ap, ◌∙◌, arith, subst}
 use Rattle.std.proofs.Math.Nat.{mul-le-mul_right}
 use Rattle.cbs_job.specs.declared.work.Work.{Ghosts}
-use Rattle.cbs_pace.specs.Paces.{Pacing, IsNotAhead, IsDue, IsPacing, unit_charge, carried_at, ticks_counted, behind_of, pacing_seen}
+use Rattle.cbs_pace.specs.Paces.{Pacing, time_to, IsNotAhead, IsDue, IsPacing, unit_charge, carried_at, ticks_counted, behind_of, pacing_seen}
 use Rattle.cbs_pace.specs.Units.{rounding_of}
 use Rattle.cbs_pace.specs.declared.watch.Watch.{Watch}
 use Rattle.cbs_steps.specs.declared.step.Step.{Step}
@@ -62,7 +62,7 @@ paid_watch : (doing : Option ℕ) (p : Pacing) (took ticks : ℕ) → (pace_paid
 paid_watch None p took ticks = refl
 paid_watch (Some s) p took ticks = refl
 
-paid_tick : (doing : Option ℕ) (p : Pacing) (took ticks : ℕ) → (pace_paid doing p took ticks).tick ≡ p.tick
+pub paid_tick : (doing : Option ℕ) (p : Pacing) (took ticks : ℕ) → (pace_paid doing p took ticks).tick ≡ p.tick
 paid_tick None p took ticks = refl
 paid_tick (Some s) p took ticks = refl
 
@@ -211,3 +211,7 @@ seen_lawful reading p lawful = record { long = lawful.long; servers = lawful.ser
 pub seen_ahead : (reading took time now : ℕ) (p : Pacing) → p.watch.over + time ≡ (pacing_seen reading p).watch.over → took ≤ time
     → IsNotAhead p now → ticks_counted p now * p.tick + took ≤ (pacing_seen reading p).watch.over + p.tick
 seen_ahead reading took time now p over within h = omega (arith, over, within, h)
+
+-- time that is measured otherwise is charged as far as the clock saw it pass: without a measure, all of it
+pub whole_time : (reading : ℕ) (p : Pacing) → min 18446744073709551615 (time_to reading p) ≡ time_to reading p
+whole_time reading p = omega arith

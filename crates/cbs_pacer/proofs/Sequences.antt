@@ -34,6 +34,7 @@ use Rattle.cbs_pacer.specs.declared.next.Next.{Next}
 use Rattle.cbs_pacer.specs.declared.next.Next.TheVariants as next
 use Rattle.cbs_pacer.specs.Paced.{Paced, doing_of, pace_paid, PaysUnit, Answers, Does, Prepares, Paces, server_ran}
 use Rattle.cbs_pacer.specs.Timed.{Timed, Makes, Works, ledger_of, next_charge, steps_of, AreTimed, IsTimed, ClockHolds, GoesOnInTime, ledger_after}
+use Rattle.cbs_pacer.proofs.Ahead.{paid_tick}
 use Rattle.cbs_pacer.proofs.Units.{ready_there, ran_of_chosen}
 
 module _ {W : Type 0} (work : Meaning W) (setup : Setup) where
@@ -121,11 +122,7 @@ module _ {W : Type 0} (work : Meaning W) (setup : Setup) where
     | inr ge ↦ let f : ltb w.now clock_end ≡ false = grind (arith, nat_tests) in let k : None ≡ Some s = rw f at e in absurd (cc)
   ]
 
--- what is paid leaves the length of a tick, and how overruns are charged
-paid_tick : (doing : Option ℕ) (p : Pacing) (took ticks : ℕ) → (pace_paid doing p took ticks).tick ≡ p.tick
-paid_tick None p took ticks = refl
-paid_tick (Some s) p took ticks = refl
-
+-- what is paid leaves how overruns are charged
 paid_carries : (doing : Option ℕ) (p : Pacing) (took ticks : ℕ) → (pace_paid doing p took ticks).carries ≡ p.carries
 paid_carries None p took ticks = refl
 paid_carries (Some s) p took ticks = refl

@@ -72,8 +72,7 @@ impl Pacer {
             → IsDue (pacing_seen reading self.old.pace) (core_of house.old).clock
             → ¬ AsksToSleep result }
     {
-        let took = self.pace.see(reading);
-        self.ask(house, took)
+        self.next_measured(house, reading, u64::MAX)
     }
 
     /// Does what [`next`](Pacer::next) does, and returns the same. But the unit that was being done
@@ -119,8 +118,7 @@ impl Pacer {
             (paced_seen reading self.old) (core_of house.old) (core_of house.new)
             (paced_of self.new) }
     {
-        let took = self.pace.see(reading);
-        self.pay(house, took);
+        self.done_measured(house, reading, u64::MAX)
     }
 
     /// Does what [`done`](Pacer::done) does, but charges for `took` nanoseconds, as

@@ -4,7 +4,7 @@ use super::calls::gave;
 use super::polling::one_client;
 use super::rows::{Case, Row, plays_all};
 use super::{same, sum_of};
-use cbs_house::{Client, SendError};
+use cbs_house::{Client, Poll, SendError};
 use cbs_job::SumJob;
 use cbs_rules::Mode;
 use std::alloc::Global;
@@ -30,7 +30,7 @@ const ENDED: [Row; 5] = [
     Row::Results(0, Ok(&[])),
 ];
 
-static CASES: [Case; 7] = [
+static CASES: [Case; 10] = [
     Case {
         name: "a soft house waits for a client that starts late",
         mode: Mode::Soft,
@@ -106,6 +106,53 @@ static CASES: [Case; 7] = [
             Row::TakeResults(0, Ok(&[9])),
             Row::Turn(0, 0),
             Row::TakeResults(0, Ok(&[])),
+        ],
+    },
+    Case {
+        name: "a turn takes what a poll before it left",
+        mode: Mode::Soft,
+        rate: (2, 5),
+        limits: (4, 4),
+        rows: &[
+            Row::Send(&[5], 0),
+            Row::Send(&[7], 1),
+            Row::Poll(0, Poll::Took(0)),
+            Row::DoneTurn(1, 0, 5),
+            Row::DoneTurn(0, 1, 7),
+            Row::IdleTurns,
+            Row::Send(&[9], 2),
+            Row::DoneTurn(1, 2, 9),
+        ],
+    },
+    Case {
+        name: "a turn takes what a full backlog left, with no send between",
+        mode: Mode::Soft,
+        rate: (2, 5),
+        limits: (1, 4),
+        rows: &[
+            Row::Send(&[5], 0),
+            Row::Send(&[7], 1),
+            Row::Poll(0, Poll::Took(0)),
+            // The backlog is full, so the turn takes nothing.
+            Row::DoneTurn(0, 0, 5),
+            Row::DoneTurn(1, 1, 7),
+            Row::IdleTurns,
+            Row::Send(&[9], 2),
+            Row::DoneTurn(1, 2, 9),
+        ],
+    },
+    Case {
+        name: "a turn takes what was only looked at",
+        mode: Mode::Soft,
+        rate: (2, 5),
+        limits: (4, 4),
+        rows: &[
+            Row::IdleTurns,
+            Row::Send(&[5], 0),
+            Row::Settle(1),
+            Row::DoneTurn(1, 0, 5),
+            Row::Settle(0),
+            Row::Turn(0, 0),
         ],
     },
 ];

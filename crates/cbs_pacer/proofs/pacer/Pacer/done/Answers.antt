@@ -1,28 +1,8 @@
-use Rattle.std.proofs.Common.{◌≡◌, ◌≤◌, min, None, arith, ap, refl, ◌∙◌}
-use Rattle.cbs_pace.specs.Paces.{Pacing, time_to}
-use Rattle.cbs_clients.specs.Houses.{core_of}
-use Rattle.cbs_pacer.specs.Paced.{paced_of, paced_seen}
-use Rattle.cbs_pacer.proofs.Ahead.{pays_ahead, seen_ahead, seen_lawful}
-use Rattle.cbs_pacer.proofs.Sequences.{ends_timed, doing_few}
+use Rattle.cbs_pacer.proofs.Ahead.{whole_time}
 use Rattle.cbs_pacer.proofs.pacer.Pacer.done.Goals as goal
 
 pub returns-clause-pays : goal.returns-clause-pays
-returns-clause-pays g c = rw (← c.see-took.ensures.value, ← c.see-took.ensures.kept) c.pay.ensures.pays
-
-pub returns-clause-kept : goal.returns-clause-kept
-returns-clause-kept g c = rw (c.pay.ensures.done, c.pay.ensures.listens, c.pay.ensures.taken) refl
-
-pub returns-clause-ahead : goal.returns-clause-ahead
-returns-clause-ahead g c = λ start.
-    let p = c.args.self.now.pace in
-    let took = time_to c.args.reading p in
-    let value = c.see-took.ensures.value in
-    let over = c.see-took.ensures.over ∙ ap (λ (q : Pacing). q.watch.over) c.see-took.ensures.kept in
-    pays_ahead took _ _ _ _ _ (seen_lawful c.args.reading p c.see-took.ensures.lawful) (returns-clause-pays g c)
-    (seen_ahead c.args.reading took c.see-took.result (core_of c.args.house.now).clock p over (omega (arith, value)) start)
+returns-clause-pays g c = rw (← whole_time c.args.reading c.args.self.now.pace) c.done_measured.ensures.pays
 
 pub returns-clause-timed : goal.returns-clause-timed
-returns-clause-timed g c =
-    let p = c.args.self.now in
-    ends_timed _ (paced_seen c.args.reading p) (paced_of c.pay.new.self) _ _ (seen_lawful c.args.reading p.pace c.see-took.ensures.lawful) (doing_few p p.there) (returns-clause-pays g c)
-    c.pay.ensures.done
+returns-clause-timed g c = rw (← whole_time c.args.reading c.args.self.now.pace) c.done_measured.ensures.timed
