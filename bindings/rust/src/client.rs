@@ -67,7 +67,7 @@ impl<T> Client<T> {
     /// # Errors
     ///
     /// [`Refused`]: nothing was sent then, and the token is handed back. [`SendError::RingFull`] passes when the house has
-    /// polled; [`SendError::HouseGone`] does not. It is never refused by [`SendError::InUnit`].
+    /// polled; [`SendError::HouseGone`] does not. This call is never refused by [`SendError::InUnit`].
     ///
     /// ```
     /// use cbs::{Mode, Plan, SendError};
@@ -106,13 +106,13 @@ impl<T> Client<T> {
 
     /// Sends a job, as [`send`](Client::send), and waits while the ring is full. Returns the number of the job.
     ///
-    /// In a unit of the same house it is refused at once, also if the ring has room: the serving thread would wait for
-    /// itself. There call [`send`](Client::send), which never waits. In a unit of another house it waits.
+    /// In a unit of the same house the send is refused at once, also if the ring has room. The serving thread would wait for
+    /// itself. Call [`send`](Client::send) there, which never waits. In a unit of another house the send waits.
     ///
     /// # Errors
     ///
-    /// [`Refused`], as [`send`](Client::send), but never by [`SendError::RingFull`]. Also by [`SendError::InUnit`]. The token is
-    /// handed back.
+    /// [`Refused`], as of [`send`](Client::send), but never by [`SendError::RingFull`]. Also by [`SendError::InUnit`], in a
+    /// unit of the same house. Nothing was sent then, and the token is handed back.
     ///
     /// ```
     /// use cbs::{Mode, Plan};
@@ -133,12 +133,12 @@ impl<T> Client<T> {
 
     /// Sends a job, as [`blocking_send`](Client::blocking_send), but waits no longer than `most`. Returns the number of the job.
     ///
-    /// With a `most` of no time it does not wait.
+    /// If `most` is zero the send does not wait. In a unit of the same house the send is refused at once, whatever `most` is.
     ///
     /// # Errors
     ///
-    /// [`Refused`], as [`send`](Client::send): by [`SendError::RingFull`] if the ring was full all that time. Also by
-    /// [`SendError::InUnit`], at once, where [`blocking_send`](Client::blocking_send) is. The token is handed back.
+    /// [`Refused`], as of [`send`](Client::send): by [`SendError::RingFull`] if there was no room in that time. Also by
+    /// [`SendError::InUnit`], in a unit of the same house. Nothing was sent then, and the token is handed back.
     ///
     /// ```
     /// use cbs::{Mode, Plan, SendError};

@@ -29,8 +29,8 @@ macro_rules! errors {
         }
 
         impl $name {
-            /// Returns the status of the interface for C, as in `cbs.h`. It is `u32::MAX`, which is no status there, for an error
-            /// that only this crate has.
+            /// Returns the status of the interface for C, as in `cbs.h`. An error that only this crate has gives `u32::MAX`, which
+            /// is no status there.
             pub fn status(self) -> u32 {
                 match self {
                     $($name::$variant => $status,)+
@@ -126,8 +126,8 @@ errors! {
         /// The house was dropped: nothing that is sent would be taken.
         HouseGone = 0x605,
     } beside {
-        /// It was sent in a unit of the same house, by a call that may wait. The thread that serves would wait for itself, so
-        /// nothing was sent. [`Client::send`](crate::Client::send) never waits, and may be called there.
+        /// The call may wait, and was made in a unit of the same house. The serving thread would wait for itself, so nothing was
+        /// sent. [`Client::send`](crate::Client::send) never waits, and may be called there.
         InUnit = "a unit of the house would wait for its own house: send there without waiting",
     }
 }

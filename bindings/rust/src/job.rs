@@ -171,13 +171,13 @@ impl<R> JobHandle<R> {
 
     /// Waits until the job has ended, and returns its result.
     ///
-    /// In a unit, of whatever house, it does not wait: it returns the result if the job has ended, and is refused at once if
-    /// not. The thread that serves would wait for itself if its house has the job, and a handle does not know which house has.
+    /// In a unit of any house a join does not wait. If the job has ended the join returns its result, and is refused at once
+    /// if not. If the same house has the job, the serving thread would wait for itself; and a handle does not know its house.
     ///
     /// # Errors
     ///
-    /// [`JobError`], but never [`JobError::TimedOut`]. After [`JobError::InUnit`] the job goes on, and its result is dropped:
-    /// [`join_timeout`](JobHandle::join_timeout) hands back the handle.
+    /// [`JobError`], but never [`JobError::TimedOut`]. [`JobError::InUnit`] in a unit, if the job has not ended. The job goes on
+    /// then, and its result is dropped. [`join_timeout`](JobHandle::join_timeout) would hand back the handle.
     ///
     /// # Panics
     ///
@@ -188,12 +188,12 @@ impl<R> JobHandle<R> {
 
     /// Waits until the job has ended, as [`join`](JobHandle::join), but no longer than `most`. Returns its result.
     ///
-    /// With a `most` of no time it does not wait.
+    /// If `most` is zero the join does not wait. In a unit of any house the join does not wait, whatever `most` is.
     ///
     /// # Errors
     ///
-    /// [`NotJoined`]: by [`JobError::TimedOut`] if the job has not ended in that time. By [`JobError::InUnit`], at once, where
-    /// [`join`](JobHandle::join) is. Both hand back the handle. By another [`JobError`] if the job ended without a result.
+    /// [`NotJoined`]. By [`JobError::TimedOut`] if the job has not ended in that time, and by [`JobError::InUnit`] in a unit, if
+    /// the job has not ended: both hand back the handle. By another [`JobError`] if the job ended without a result.
     ///
     /// # Panics
     ///
@@ -290,9 +290,10 @@ pub enum JobError {
     Lost,
     /// Its closure panicked, with this.
     Panicked(Payload),
-    /// It had not ended when the time was over, as long as [`JobHandle::join_timeout`] was to wait.
+    /// The job had not ended when the time of [`JobHandle::join_timeout`] was over.
     TimedOut,
-    /// It was waited for in a unit. The thread that serves may have waited for itself, so nobody waited.
+    /// The join was called in a unit, and the job had not ended. The serving thread might have waited for itself, so the join
+    /// did not wait.
     InUnit,
 }
 
@@ -318,7 +319,7 @@ impl Error for JobError {}
 pub struct NotJoined<R> {
     /// Why there is none.
     pub error: JobError,
-    /// The handle, after [`JobError::TimedOut`] and [`JobError::InUnit`]. `None` if the job has ended.
+    /// The handle, after [`JobError::TimedOut`] and [`JobError::InUnit`]. There is none if the job has ended.
     pub handle: Option<JobHandle<R>>,
 }
 

@@ -42,11 +42,13 @@ impl<T> Unit<'_, T> {
 
     /// Has `work` do the unit, and returns what `work` returns.
     ///
-    /// Within `work` each call that would wait for this house is refused, and does not hang: a
-    /// [`blocking_send`](crate::Client::blocking_send) or [`send_timeout`](crate::Client::send_timeout) of a client of the
-    /// house, and a [`join`](crate::JobHandle::join) or [`join_timeout`](crate::JobHandle::join_timeout) of a job that has not
-    /// ended. The calls that serve do each unit so. A loop of one's own calls this, or [`run`](Unit::run) of a unit of a
-    /// [`Job`](crate::Job). Without it such a call is not seen, and hangs.
+    /// Within `work` each call that would wait for this house is refused, and does not hang. These are
+    /// [`blocking_send`](crate::Client::blocking_send) and [`send_timeout`](crate::Client::send_timeout) by a client of the
+    /// house. So are [`join`](crate::JobHandle::join) and [`join_timeout`](crate::JobHandle::join_timeout), if the job has not
+    /// ended.
+    ///
+    /// The calls that serve do each unit so, and so does [`Unit::run`] of a [`Job`](crate::Job). It is for a loop of one's own.
+    /// If the loop does its units without this call, what waits for the house is not seen, and hangs.
     ///
     /// ```
     /// use cbs::{Mode, Plan, Ran, SendError};
