@@ -9,11 +9,13 @@ thread_local! {
 }
 
 /// Returns the number of the calling thread, which no other thread has as long as this one lives. It is not 0.
+#[inline]
 fn me() -> usize {
     UNITS.with(|units| units as *const Cell<usize> as usize)
 }
 
 /// Returns whether the calling thread is in a unit, of any house.
+#[inline]
 pub(crate) fn is_in_unit() -> bool {
     UNITS.with(Cell::get) > 0
 }
@@ -26,11 +28,13 @@ pub(crate) struct Doer(AtomicUsize);
 
 impl Doer {
     /// Returns whether the calling thread does a unit of the house.
+    #[inline]
     pub(crate) fn is_me(&self) -> bool {
         self.0.load(Ordering::Relaxed) == me()
     }
 
     /// Notes that the calling thread does a unit of the house, until what this returns is dropped.
+    #[inline]
     pub(crate) fn begin(&self) -> Doing<'_> {
         let before = self.0.load(Ordering::Relaxed);
         self.0.store(me(), Ordering::Relaxed);
@@ -47,6 +51,7 @@ pub(crate) struct Doing<'d> {
 }
 
 impl Drop for Doing<'_> {
+    #[inline]
     fn drop(&mut self) {
         UNITS.with(|units| units.set(units.get() - 1));
         self.doer.0.store(self.before, Ordering::Relaxed);

@@ -68,6 +68,7 @@ impl<T> Unit<'_, T> {
     /// # Panics
     ///
     /// If `work` panics.
+    #[inline]
     pub fn done_by<R>(self, work: impl FnOnce(Self) -> R) -> R {
         let _doing = self.doer.begin();
         work(self)

@@ -285,8 +285,13 @@ fn after_a_unit_that_panicked_its_thread_may_wait() {
         }));
         assert!(panics.is_err());
         assert_eq!(client.blocking_send(1, 1), Ok(1));
-        let handle = Job::new(|unit| unit).1;
+        let (job, handle) = Job::new(|unit| unit);
+        let loser = thread::spawn(move || {
+            thread::sleep(SHORT);
+            drop(job);
+        });
         assert!(matches!(handle.join(), Err(JobError::Lost)));
+        loser.join().unwrap();
     });
 }
 
