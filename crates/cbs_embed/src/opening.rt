@@ -80,11 +80,20 @@ fn box_both(
     ensures clients { IfOk result (λ r. map (λ b. Some b.value) r.1.items
         ≡ map (λ c. Some (held.Client c)) clients.items) }
 {
-    let Ok(held) = Box::new(alloc, Held::House(house)) else {
-        return Err(AllocError);
-    };
+    let held = box_house(alloc, house)?;
     let ends = box_all(alloc, clients)?;
     Ok((held, ends))
+}
+
+/// Returns the house in a box, or the error if an allocation is refused.
+#[inline(never)]
+fn box_house(alloc: Global, house: House<UnitJob>) -> Result<Box<Held>, AllocError>
+    ensures { IfOk result (λ b. b.value ≡ held.House house) }
+{
+    match Box::new(alloc, Held::House(house)) {
+        Ok(held) => Ok(held),
+        Err(_) => Err(AllocError),
+    }
 }
 
 /// Returns each client in a box, or the error if an allocation is refused.
@@ -101,6 +110,7 @@ fn box_all(alloc: Global, clients: Vec<Client<UnitJob>>) -> Result<Vec<Box<Held>
 }
 
 /// Puts a box into each handle.
+#[inline(never)]
 fn fill(handles: &mut [Handle], boxes: Vec<Box<Held>>)
     requires { length handles.old ≡ length boxes.items }
     ensures { map held_by handles.new ≡ map (λ b. Some b.value) boxes.items }
