@@ -55,7 +55,11 @@ extern "C" {
 
 /* The thread sanitizer does not see into the library, so it does not know that a send comes before the unit that has its
  * token. A program whose tokens are pointers tells it: CBS_TSAN_RELEASE(p) before the token p is sent, and
- * CBS_TSAN_ACQUIRE(p) before the unit uses p. If the program is not compiled with -fsanitize=thread both do nothing. */
+ * CBS_TSAN_ACQUIRE(p) before the unit uses p.
+ * Nor does it know that what a client's thread did before its end comes before the house tells that all is over. A
+ * program that relies on it tells that, too: CBS_TSAN_END(p) before the cbs_end or cbs_free of each client, and
+ * CBS_TSAN_OVER(p) once the house has told it. p is then an address that both threads have, as the house's.
+ * If the program is not compiled with -fsanitize=thread they all do nothing. */
 #if defined(__has_feature)
 #if __has_feature(thread_sanitizer)
 #define CBS_TSAN
@@ -73,6 +77,8 @@ void __tsan_acquire(void *address);
 #define CBS_TSAN_RELEASE(p) ((void)(p))
 #define CBS_TSAN_ACQUIRE(p) ((void)(p))
 #endif
+#define CBS_TSAN_END(p) CBS_TSAN_RELEASE(p)
+#define CBS_TSAN_OVER(p) CBS_TSAN_ACQUIRE(p)
 
 /* Of a house or of a client. The fields are the library's. */
 struct cbs_handle {

@@ -61,7 +61,8 @@ static inline void cbs_bell_close(struct cbs_bell *bell) {
     pthread_cond_destroy(&bell->rings);
 }
 
-/* Wakes the house, if it sleeps: after a cbs_send or cbs_end that succeeded, and after a client was freed. From any thread. */
+/* Wakes the house, if it sleeps: after a cbs_send or cbs_end that succeeded, and after a client was freed. From any thread.
+ * cbs_realtime_send, cbs_realtime_end and cbs_realtime_free below do both. */
 static inline void cbs_bell_ring(struct cbs_bell *bell) {
     /* The library's rings are seq_cst, too: either this sees that the house listens, or the house sees what was sent. */
     if (__atomic_exchange_n(&bell->listening, false, __ATOMIC_SEQ_CST)) {
@@ -98,17 +99,65 @@ static inline struct timespec cbs_clock_timespec(uint64_t time) {
     return at;
 }
 
-/* Waits until the bell is rung, and until that time of the monotonic clock at most; UINT64_MAX for no end. */
-static inline void cbs_bell_wait(struct cbs_bell *bell, uint64_t until) {
+/* Waits, with the lock, until the bell is rung, and until that time at most. */
+static inline void cbs_bell_wait_locked(struct cbs_bell *bell, uint64_t until) {
     struct timespec at = cbs_clock_timespec(until);
     int late = 0;
-    pthread_mutex_lock(&bell->lock);
     while (!bell->rung && late != ETIMEDOUT) {
         late = until == UINT64_MAX ? pthread_cond_wait(&bell->rings, &bell->lock)
                                    : pthread_cond_timedwait(&bell->rings, &bell->lock, &at);
     }
+}
+
+/* Waits no more: gives the lock back, and does not listen. Of a bell. */
+static inline void cbs_bell_leave(void *of) {
+#ifdef __cplusplus
+    struct cbs_bell *bell = static_cast<struct cbs_bell *>(of);
+#else
+    struct cbs_bell *bell = of;
+#endif
     pthread_mutex_unlock(&bell->lock);
     __atomic_store_n(&bell->listening, false, __ATOMIC_SEQ_CST);
+}
+
+/* Waits until the bell is rung, and until that time of the monotonic clock at most; UINT64_MAX for no end. A thread that
+ * is cancelled meanwhile (pthread_cancel) leaves the bell as one that comes back: another may serve, and it may be closed. */
+static inline void cbs_bell_wait(struct cbs_bell *bell, uint64_t until) {
+    pthread_mutex_lock(&bell->lock);
+    pthread_cleanup_push(cbs_bell_leave, bell);
+    cbs_bell_wait_locked(bell, until);
+    pthread_cleanup_pop(1);
+}
+
+/* ---- A client's calls, each with the ring that wakes its house ---- */
+
+/* Sends a job, as cbs_send does, and wakes the house. Returns what cbs_send returns. */
+static inline uint32_t cbs_realtime_send(struct cbs_bell *bell, struct cbs_handle *client, uint64_t token,
+                                         uint32_t units, uint64_t *seq) {
+    uint32_t status = cbs_send(client, token, units, seq);
+    if (status == CBS_OK) {
+        cbs_bell_ring(bell);
+    }
+    return status;
+}
+
+/* Sends the end, as cbs_end does, and wakes the house. Returns what cbs_end returns. What this thread did before is seen
+ * by whoever saw that all is over; the thread sanitizer is told so. */
+static inline uint32_t cbs_realtime_end(struct cbs_bell *bell, struct cbs_handle *client) {
+    CBS_TSAN_END(bell);
+    uint32_t status = cbs_end(client);
+    if (status == CBS_OK) {
+        cbs_bell_ring(bell);
+    }
+    return status;
+}
+
+/* Frees a client, as cbs_free does, and wakes the house. The client sends its end, if it has not ended. The thread
+ * sanitizer is told as by cbs_realtime_end. */
+static inline void cbs_realtime_free(struct cbs_bell *bell, struct cbs_handle *client) {
+    CBS_TSAN_END(bell);
+    cbs_free(client);
+    cbs_bell_ring(bell);
 }
 
 /* ---- The clocks, in nanoseconds ---- */
@@ -243,6 +292,9 @@ static inline uint32_t cbs_realtime_step(struct cbs_realtime *self, struct cbs_h
         return status;
     }
     self->over = next.kind == CBS_NEXT_OVER;
+    if (self->over) {
+        CBS_TSAN_OVER(self->bell);
+    }
     switch (next.kind) {
     case CBS_NEXT_UNIT: cbs_realtime_work(self, house, &next.unit); break;
     case CBS_NEXT_SLEEP: cbs_clock_sleep(next.until); break;

@@ -35,13 +35,11 @@ static void *sends(void *of) {
         uint64_t number;
         *job = wanted[i];
         CBS_TSAN_RELEASE(job);
-        while ((me->status = cbs_send(&me->client, (uintptr_t)job, job->units, &number)) == CBS_SEND_RING_FULL) {
+        while ((me->status = cbs_realtime_send(me->bell, &me->client, (uintptr_t)job, job->units, &number)) == CBS_SEND_RING_FULL) {
             sched_yield();
         }
-        cbs_bell_ring(me->bell);
     }
-    cbs_free(&me->client);
-    cbs_bell_ring(me->bell);
+    cbs_realtime_free(me->bell, &me->client);
     return NULL;
 }
 

@@ -44,12 +44,9 @@ class Handle {
 public:
     explicit Handle(Bell &rings) : rings(&rings) {}
     Handle(Handle &&other) noexcept : handle(std::exchange(other.handle, cbs_handle{})), rings(other.rings) {}
-    ~Handle() {
-        cbs_free(&handle);
-        cbs_bell_ring(&rings->bell);
-    }
+    ~Handle() { cbs_realtime_free(&rings->bell, &handle); }
     cbs_handle *get() { return &handle; }
-    void ring() { cbs_bell_ring(&rings->bell); }
+    cbs_bell *bell() { return &rings->bell; }
 
 private:
     cbs_handle handle{}; // all bytes 0: not open
@@ -75,11 +72,11 @@ static void sends(Handle client) {
         std::uint64_t number;
         std::uint32_t status;
         CBS_TSAN_RELEASE(&job);
-        while ((status = cbs_send(client.get(), reinterpret_cast<std::uintptr_t>(&job), job.units, &number)) == CBS_SEND_RING_FULL) {
+        const auto token = reinterpret_cast<std::uintptr_t>(&job);
+        while ((status = cbs_realtime_send(client.bell(), client.get(), token, job.units, &number)) == CBS_SEND_RING_FULL) {
             std::this_thread::yield();
         }
         must(status);
-        client.ring();
     }
 }
 

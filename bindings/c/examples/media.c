@@ -84,16 +84,14 @@ static void *produce(void *of) {
         cbs_clock_sleep(next);
         frame = frame != NULL ? frame : make_frame(me->sent);
         CBS_TSAN_RELEASE(frame);
-        if (cbs_send(&me->client, (uintptr_t)frame, SLICES, &seq) == CBS_OK) {
+        if (cbs_realtime_send(&bell, &me->client, (uintptr_t)frame, SLICES, &seq) == CBS_OK) {
             MUST(seq == me->sent++);
             frame = NULL;
-            cbs_bell_ring(&bell);
         }
         me->dropped += frame != NULL && me->every != 0;
     }
     free(frame);
-    cbs_free(&me->client); /* sends the end */
-    cbs_bell_ring(&bell);
+    cbs_realtime_free(&bell, &me->client); /* sends the end */
     return NULL;
 }
 

@@ -1,8 +1,10 @@
 use crate::bell::{Bell, RingsAtLast};
+use crate::doing::Doer;
 use crate::error::{not_answered, Refused, SendError};
 use crate::ffi::{self, Handle};
 use crate::tokens::Tokens;
 use std::sync::Arc;
+use std::time::{Duration, Instant};
 
 /// The sender's side of one server. It may go to another thread, and sends while the house runs.
 ///
@@ -30,6 +32,7 @@ pub struct Client<T = u64> {
     handle: Handle,
     tokens: Arc<Tokens<T>>,
     bell: RingsAtLast,
+    doer: Arc<Doer>,
     server: usize,
     sent: u64,
 }
@@ -39,12 +42,14 @@ impl<T> Client<T> {
         handle: Handle,
         tokens: Arc<Tokens<T>>,
         bell: Arc<Bell>,
+        doer: Arc<Doer>,
         server: usize,
     ) -> Client<T> {
         Client {
             handle,
             tokens,
             bell: RingsAtLast(bell),
+            doer,
             server,
             sent: 0,
         }
@@ -57,12 +62,12 @@ impl<T> Client<T> {
     }
 
     /// Sends a job of 1 to 1,000,000 units, and returns its number among those of this client, from 0. It never waits, and wakes
-    /// a house that sleeps. Jobs are taken, run and finished in the order of their sends.
+    /// a house that sleeps. A unit may call it. Jobs are taken, run and finished in the order of their sends.
     ///
     /// # Errors
     ///
     /// [`Refused`]: nothing was sent then, and the token is handed back. [`SendError::RingFull`] passes when the house has
-    /// polled; [`SendError::HouseGone`] does not.
+    /// polled; [`SendError::HouseGone`] does not. This call is never refused by [`SendError::InUnit`].
     ///
     /// ```
     /// use cbs::{Mode, Plan, SendError};
@@ -99,11 +104,15 @@ impl<T> Client<T> {
         }
     }
 
-    /// Sends a job, and waits while the ring is full.
+    /// Sends a job, as [`send`](Client::send), and waits while the ring is full. Returns the number of the job.
+    ///
+    /// In a unit of the same house the send is refused at once, also if the ring has room. The serving thread would wait for
+    /// itself. Call [`send`](Client::send) there, which never waits. In a unit of another house the send waits.
     ///
     /// # Errors
     ///
-    /// [`Refused`], as [`send`](Client::send), but never by [`SendError::RingFull`].
+    /// [`Refused`], as of [`send`](Client::send), but never by [`SendError::RingFull`]. Also by [`SendError::InUnit`], in a
+    /// unit of the same house. Nothing was sent then, and the token is handed back.
     ///
     /// ```
     /// use cbs::{Mode, Plan};
@@ -118,7 +127,54 @@ impl<T> Client<T> {
     /// sender.join().unwrap()?;
     /// # Ok::<(), Box<dyn std::error::Error>>(())
     /// ```
-    pub fn blocking_send(&mut self, mut token: T, units: u32) -> Result<u64, Refused<T>> {
+    pub fn blocking_send(&mut self, token: T, units: u32) -> Result<u64, Refused<T>> {
+        self.send_until(token, units, None)
+    }
+
+    /// Sends a job, as [`blocking_send`](Client::blocking_send), but waits no longer than `most`. Returns the number of the job.
+    ///
+    /// If `most` is zero the send does not wait. In a unit of the same house the send is refused at once, whatever `most` is.
+    ///
+    /// # Errors
+    ///
+    /// [`Refused`], as of [`send`](Client::send): by [`SendError::RingFull`] if there was no room in that time. Also by
+    /// [`SendError::InUnit`], in a unit of the same house. Nothing was sent then, and the token is handed back.
+    ///
+    /// ```
+    /// use cbs::{Mode, Plan, SendError};
+    /// use std::time::Duration;
+    ///
+    /// let mut plan = Plan::new();
+    /// plan.admit(2, 5, Mode::Soft)?;
+    /// let (house, mut clients) = plan.open(4, 1)?;
+    /// let most = Duration::from_millis(1);
+    /// assert_eq!(clients[0].send_timeout("wash", 1, most)?, 0);
+    /// let refused = clients[0].send_timeout("dry", 1, most).unwrap_err(); // nobody serves
+    /// assert_eq!((refused.error, refused.token), (SendError::RingFull, "dry"));
+    /// # drop(house);
+    /// # Ok::<(), Box<dyn std::error::Error>>(())
+    /// ```
+    pub fn send_timeout(
+        &mut self,
+        token: T,
+        units: u32,
+        most: Duration,
+    ) -> Result<u64, Refused<T>> {
+        // A time that no clock will show is no limit.
+        self.send_until(token, units, Instant::now().checked_add(most))
+    }
+
+    /// Sends a job, and waits while the ring is full, until that time at most.
+    fn send_until(
+        &mut self,
+        mut token: T,
+        units: u32,
+        until: Option<Instant>,
+    ) -> Result<u64, Refused<T>> {
+        if self.doer.is_me() {
+            let error = SendError::InUnit;
+            return Err(Refused { error, token });
+        }
         loop {
             for listens in [false, true] {
                 if listens {
@@ -132,7 +188,13 @@ impl<T> Client<T> {
                     }
                 }
             }
-            self.tokens.room.wait(None);
+            let left = until.map(|until| until.saturating_duration_since(Instant::now()));
+            if left == Some(Duration::ZERO) {
+                self.tokens.room.leave();
+                let error = SendError::RingFull;
+                return Err(Refused { error, token });
+            }
+            self.tokens.room.wait(left);
         }
     }
 

@@ -1,4 +1,4 @@
-//! The errors: each is one status of the library, with the library's own text.
+//! The errors: each is one status of the library, with the library's own text, but for those that only this crate has.
 
 use crate::ffi::{status_text, Status};
 use std::error::Error;
@@ -14,21 +14,27 @@ pub(crate) fn not_answered(status: Status) -> ! {
     )
 }
 
-/// An error enum whose variants are statuses.
+/// An error enum whose variants are statuses. Those that stand `beside` them are this crate's alone, each with its text.
 macro_rules! errors {
-    ($(#[$doc:meta])* $name:ident { $($(#[$variant_doc:meta])* $variant:ident = $status:literal,)+ }) => {
+    (
+        $(#[$doc:meta])* $name:ident { $($(#[$variant_doc:meta])* $variant:ident = $status:literal,)+ }
+        $(beside { $($(#[$own_doc:meta])* $own:ident = $text:literal,)+ })?
+    ) => {
         $(#[$doc])*
         #[derive(Clone, Copy, Debug, PartialEq, Eq, Hash)]
         #[non_exhaustive]
         pub enum $name {
             $($(#[$variant_doc])* $variant,)+
+            $($($(#[$own_doc])* $own,)+)?
         }
 
         impl $name {
-            /// The status of the interface for C, as in `cbs.h`.
+            /// Returns the status of the interface for C, as in `cbs.h`. An error that only this crate has gives `u32::MAX`, which
+            /// is no status there.
             pub fn status(self) -> u32 {
                 match self {
                     $($name::$variant => $status,)+
+                    $($($name::$own => u32::MAX,)+)?
                 }
             }
 
@@ -43,7 +49,10 @@ macro_rules! errors {
 
         impl fmt::Display for $name {
             fn fmt(&self, f: &mut fmt::Formatter<'_>) -> fmt::Result {
-                f.write_str(&status_text(self.status()))
+                match self {
+                    $($($name::$own => f.write_str($text),)+)?
+                    _ => f.write_str(&status_text(self.status())),
+                }
             }
         }
 
@@ -116,6 +125,10 @@ errors! {
         RingFull = 0x502,
         /// The house was dropped: nothing that is sent would be taken.
         HouseGone = 0x605,
+    } beside {
+        /// The call may wait, and was made in a unit of the same house. The serving thread would wait for itself, so nothing was
+        /// sent. [`Client::send`](crate::Client::send) never waits, and may be called there.
+        InUnit = "a unit of the house would wait for its own house: send there without waiting",
     }
 }
 

@@ -1,4 +1,5 @@
 use crate::bell::{Bell, Stopper};
+use crate::doing::Doer;
 use crate::error::{not_answered, HouseError, RunError};
 use crate::ffi::{self, kind, Handle, Status};
 use crate::pacer::{nanos, Next, Pacer, Rounding};
@@ -16,6 +17,7 @@ pub struct House<T = u64> {
     handle: Handle,
     servers: Vec<Served<T>>,
     bell: Arc<Bell>,
+    doer: Arc<Doer>,
     stopper: Stopper,
 }
 
@@ -36,7 +38,8 @@ pub enum Ran<'h, T = u64> {
     Idle,
     /// Nothing: the clock stands at its end, 10^12 ticks, with a job unfinished.
     ClockEnd,
-    /// This unit. It took one tick; what it takes beyond that is for the program to [charge](House::charge).
+    /// This unit. It took one tick; what it takes beyond that is for the program to [charge](House::charge). If the program
+    /// does it by [`Unit::done_by`], it cannot wait for its own house.
     Unit(Unit<'h, T>),
 }
 
@@ -154,7 +157,12 @@ impl<T> Served<T> {
 }
 
 impl<T> House<T> {
-    pub(crate) fn new(handle: Handle, tokens: Vec<Arc<Tokens<T>>>, bell: Arc<Bell>) -> House<T> {
+    pub(crate) fn new(
+        handle: Handle,
+        tokens: Vec<Arc<Tokens<T>>>,
+        bell: Arc<Bell>,
+        doer: Arc<Doer>,
+    ) -> House<T> {
         let served = |tokens| Served {
             tokens,
             begun: 0,
@@ -165,6 +173,7 @@ impl<T> House<T> {
             servers: tokens.into_iter().map(served).collect(),
             stopper: Stopper::new(Arc::clone(&bell)),
             bell,
+            doer,
         }
     }
 
@@ -202,6 +211,7 @@ impl<T> House<T> {
             server,
             seq: unit.seq,
             token: self.servers[server].token(unit.seq, last),
+            doer: &self.doer,
         }
     }
 
@@ -284,7 +294,7 @@ impl<T> House<T> {
             let (over, out_of_memory) = (turn.over, turn.out_of_memory);
             let idle = turn.took == 0 && turn.advanced == 0 && matches!(turn.ran, Ran::Idle);
             match turn.ran {
-                Ran::Unit(unit) => work(unit),
+                Ran::Unit(unit) => unit.done_by(&mut work),
                 Ran::ClockEnd => return Err(RunError::ClockEnd),
                 Ran::Idle => {}
             }

@@ -1,5 +1,6 @@
 //! Jobs that are closures.
 
+use crate::doing::is_in_unit;
 use crate::error::RunError;
 use crate::house::{Ended, House};
 use crate::unit::Unit;
@@ -11,6 +12,7 @@ use std::panic::{catch_unwind, AssertUnwindSafe};
 use std::pin::Pin;
 use std::sync::{Arc, Condvar, Mutex, MutexGuard, PoisonError};
 use std::task::{Context, Poll, Waker};
+use std::time::{Duration, Instant};
 
 /// A job that is a closure: it is called once for each unit, with the number of the unit, from 0. What its last call returns is the
 /// job's result, which its [`JobHandle`] gives. It is a token as any other.
@@ -70,10 +72,12 @@ impl fmt::Debug for Job {
 }
 
 impl Unit<'_, Job> {
-    /// Does the unit: calls the job's closure.
-    pub fn run(mut self) {
-        let last = self.is_last();
-        self.token.0.step(last);
+    /// Does the unit: calls the job's closure, by [`done_by`](Unit::done_by).
+    pub fn run(self) {
+        self.done_by(|mut unit| {
+            let last = unit.is_last();
+            unit.token.0.step(last);
+        });
     }
 }
 
@@ -167,19 +171,89 @@ impl<R> JobHandle<R> {
 
     /// Waits until the job has ended, and returns its result.
     ///
+    /// In a unit of any house a join does not wait. If the job has ended the join returns its result, and is refused at once
+    /// if not. If the same house has the job, the serving thread would wait for itself; and a handle does not know its house.
+    ///
     /// # Errors
     ///
-    /// [`JobError`].
+    /// [`JobError`], but never [`JobError::TimedOut`]. [`JobError::InUnit`] in a unit, if the job has not ended. The job goes on
+    /// then, and its result is dropped. [`join_timeout`](JobHandle::join_timeout) would hand back the handle.
+    ///
+    /// # Panics
+    ///
+    /// If the result was taken by a poll.
     pub fn join(self) -> Result<R, JobError> {
+        self.join_until(None).map_err(JobError::from)
+    }
+
+    /// Waits until the job has ended, as [`join`](JobHandle::join), but no longer than `most`. Returns its result.
+    ///
+    /// If `most` is zero the join does not wait. In a unit of any house the join does not wait, whatever `most` is.
+    ///
+    /// # Errors
+    ///
+    /// [`NotJoined`]. By [`JobError::TimedOut`] if the job has not ended in that time, and by [`JobError::InUnit`] in a unit, if
+    /// the job has not ended: both hand back the handle. By another [`JobError`] if the job ended without a result.
+    ///
+    /// # Panics
+    ///
+    /// If the result was taken by a poll.
+    ///
+    /// ```
+    /// use cbs::{Job, JobError, Mode, Plan};
+    /// use std::time::Duration;
+    ///
+    /// let mut plan = Plan::new();
+    /// plan.admit(2, 5, Mode::Soft)?;
+    /// let (mut house, mut clients) = plan.open(4, 4)?;
+    /// let (job, handle) = Job::new(|unit| unit);
+    /// clients[0].send(job, 2)?;
+    /// drop(clients);
+    /// let most = Duration::from_millis(1);
+    /// let not_yet = handle.join_timeout(most).unwrap_err(); // nobody serves
+    /// assert!(matches!(not_yet.error, JobError::TimedOut));
+    /// let handle = not_yet.handle.expect("the job may still end");
+    /// house.run_jobs()?;
+    /// assert_eq!(handle.join_timeout(most)?, 1);
+    /// # Ok::<(), Box<dyn std::error::Error>>(())
+    /// ```
+    pub fn join_timeout(self, most: Duration) -> Result<R, NotJoined<R>> {
+        // A time that no clock will show is no limit.
+        self.join_until(Instant::now().checked_add(most))
+    }
+
+    /// Waits until the job has ended, and until that time at most.
+    fn join_until(self, until: Option<Instant>) -> Result<R, NotJoined<R>> {
         let mut state = self.0.state();
         loop {
             match std::mem::replace(&mut *state, State::Taken) {
-                State::Ended(result) => return result,
+                State::Ended(Ok(result)) => return Ok(result),
+                State::Ended(Err(error)) => {
+                    let handle = None;
+                    return Err(NotJoined { error, handle });
+                }
                 State::Taken => panic!("the result was taken by a poll"),
                 waits => *state = waits,
             }
-            let waited = self.0.changed.wait(state);
-            state = waited.unwrap_or_else(PoisonError::into_inner);
+            let left = until.map(|until| until.saturating_duration_since(Instant::now()));
+            let refused = if is_in_unit() {
+                Some(JobError::InUnit)
+            } else {
+                (left == Some(Duration::ZERO)).then_some(JobError::TimedOut)
+            };
+            if let Some(error) = refused {
+                drop(state);
+                let handle = Some(self);
+                return Err(NotJoined { error, handle });
+            }
+            let changed = &self.0.changed;
+            state = match left {
+                None => changed.wait(state).unwrap_or_else(PoisonError::into_inner),
+                Some(left) => {
+                    let waited = changed.wait_timeout(state, left);
+                    waited.unwrap_or_else(PoisonError::into_inner).0
+                }
+            };
         }
     }
 }
@@ -208,7 +282,7 @@ impl<R> fmt::Debug for JobHandle<R> {
     }
 }
 
-/// Why a job has no result.
+/// Why a job has no result, or none yet.
 #[derive(Debug)]
 #[non_exhaustive]
 pub enum JobError {
@@ -216,6 +290,11 @@ pub enum JobError {
     Lost,
     /// Its closure panicked, with this.
     Panicked(Payload),
+    /// The job had not ended when the time of [`JobHandle::join_timeout`] was over.
+    TimedOut,
+    /// The join was called in a unit, and the job had not ended. The serving thread might have waited for itself, so the join
+    /// did not wait.
+    InUnit,
 }
 
 impl fmt::Display for JobError {
@@ -226,11 +305,45 @@ impl fmt::Display for JobError {
                 Some(text) => write!(f, "the job panicked: {text}"),
                 None => f.write_str("the job panicked"),
             },
+            JobError::TimedOut => f.write_str("the job has not ended in time"),
+            JobError::InUnit => {
+                f.write_str("a unit does not wait for a job, lest it wait for its own house")
+            }
         }
     }
 }
 
 impl Error for JobError {}
+
+/// A join that has no result: why, and the handle, if the job may have a result later.
+pub struct NotJoined<R> {
+    /// Why there is none.
+    pub error: JobError,
+    /// The handle, after [`JobError::TimedOut`] and [`JobError::InUnit`]. There is none if the job has ended.
+    pub handle: Option<JobHandle<R>>,
+}
+
+impl<R> fmt::Debug for NotJoined<R> {
+    fn fmt(&self, f: &mut fmt::Formatter<'_>) -> fmt::Result {
+        f.debug_struct("NotJoined")
+            .field("error", &self.error)
+            .finish_non_exhaustive()
+    }
+}
+
+impl<R> fmt::Display for NotJoined<R> {
+    fn fmt(&self, f: &mut fmt::Formatter<'_>) -> fmt::Result {
+        self.error.fmt(f)
+    }
+}
+
+impl<R> Error for NotJoined<R> {}
+
+impl<R> From<NotJoined<R>> for JobError {
+    fn from(not_joined: NotJoined<R>) -> JobError {
+        not_joined.error
+    }
+}
 
 /// What a closure panicked with.
 pub struct Payload(Box<dyn Any + Send>);

@@ -48,6 +48,7 @@
 
 mod bell;
 mod client;
+mod doing;
 mod error;
 #[allow(unsafe_code)]
 mod ffi;
@@ -63,7 +64,7 @@ pub use bell::{Bell, Stopper};
 pub use client::Client;
 pub use error::{HouseError, OpenError, PlanError, Refused, RunError, SendError};
 pub use house::{Charges, Ended, House, Poll, Ran, Turn, View};
-pub use job::{Job, JobError, JobHandle, Payload};
+pub use job::{Job, JobError, JobHandle, NotJoined, Payload};
 pub use plan::{Mode, Plan};
 pub use unit::{Token, Unfinished, Unit};
 

@@ -78,7 +78,7 @@ impl fmt::Debug for Pacer {
 #[derive(Debug)]
 #[must_use]
 pub enum Next<'h, T = u64> {
-    /// It does this unit, whose tick has come.
+    /// It does this unit, whose tick has come. By [`Unit::done_by`] no unit waits for its own house.
     Do(Unit<'h, T>),
     /// It sleeps until its clock shows this. Somebody is ready, and the tick of the unit comes
     /// then.

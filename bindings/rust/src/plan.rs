@@ -1,5 +1,6 @@
 use crate::bell::Bell;
 use crate::client::Client;
+use crate::doing::Doer;
 use crate::error::{not_answered, OpenError, PlanError};
 use crate::ffi::{self, Server};
 use crate::house::House;
@@ -96,13 +97,15 @@ impl Plan {
         let opened = ffi::open(&self.servers, backlog as u64, ring as u64);
         let (house, handles) = opened.map_err(OpenError::of)?;
         let bell = Arc::new(Bell::default());
+        let doer = Arc::new(Doer::default());
         let mut tokens = Vec::with_capacity(handles.len());
         let mut clients = Vec::with_capacity(handles.len());
         for (server, handle) in handles.into_iter().enumerate() {
             let shared = Arc::new(Tokens::new(backlog + ring));
             tokens.push(Arc::clone(&shared));
-            clients.push(Client::new(handle, shared, Arc::clone(&bell), server));
+            let (bell, doer) = (Arc::clone(&bell), Arc::clone(&doer));
+            clients.push(Client::new(handle, shared, bell, doer, server));
         }
-        Ok((House::new(house, tokens, bell), clients))
+        Ok((House::new(house, tokens, bell, doer), clients))
     }
 }

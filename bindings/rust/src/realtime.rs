@@ -208,7 +208,7 @@ impl<'h, T, C: Clock> Realtime<'h, T, C> {
             ..
         } = &mut *ends.0;
         match house.ask(pacer, now, took) {
-            Next::Do(unit) => work(unit),
+            Next::Do(unit) => unit.done_by(work),
             Next::SleepUntil(time) => clock.sleep_until(time),
             Next::Listen => {}
             Next::WaitUntil(time) => clock.wait(house.bell(), time),

@@ -1,8 +1,8 @@
+use crate::doing::Doer;
 use std::fmt;
 use std::ops::{Deref, DerefMut};
 
 /// A unit of a job, which the program does.
-#[derive(Debug)]
 #[non_exhaustive]
 pub struct Unit<'h, T> {
     /// The server of the job.
@@ -11,6 +11,17 @@ pub struct Unit<'h, T> {
     pub seq: u64,
     /// What was sent with the job.
     pub token: Token<'h, T>,
+    pub(crate) doer: &'h Doer,
+}
+
+impl<T> fmt::Debug for Unit<'_, T> {
+    fn fmt(&self, f: &mut fmt::Formatter<'_>) -> fmt::Result {
+        f.debug_struct("Unit")
+            .field("server", &self.server)
+            .field("seq", &self.seq)
+            .field("token", &self.token)
+            .finish_non_exhaustive()
+    }
 }
 
 impl<T> Unit<'_, T> {
@@ -27,6 +38,40 @@ impl<T> Unit<'_, T> {
             Token::Kept(_) => None,
             Token::Last(token) => Some(token),
         }
+    }
+
+    /// Has `work` do the unit, and returns what `work` returns.
+    ///
+    /// Within `work` each call that would wait for this house is refused, and does not hang. These are
+    /// [`blocking_send`](crate::Client::blocking_send) and [`send_timeout`](crate::Client::send_timeout) by a client of the
+    /// house. So are [`join`](crate::JobHandle::join) and [`join_timeout`](crate::JobHandle::join_timeout), if the job has not
+    /// ended.
+    ///
+    /// The calls that serve do each unit so, and so does [`Unit::run`] of a [`Job`](crate::Job). It is for a loop of one's own.
+    /// If the loop does its units without this call, what waits for the house is not seen, and hangs.
+    ///
+    /// ```
+    /// use cbs::{Mode, Plan, Ran, SendError};
+    ///
+    /// let mut plan = Plan::new();
+    /// plan.admit(2, 5, Mode::Soft)?;
+    /// let (mut house, mut clients) = plan.open(4, 4)?;
+    /// let mut client = clients.remove(0);
+    /// client.send("wash", 1)?;
+    /// if let Ran::Unit(unit) = house.turn().ran {
+    ///     let refused = unit.done_by(|_unit| client.blocking_send("dry", 1)).unwrap_err();
+    ///     assert_eq!((refused.error, refused.token), (SendError::InUnit, "dry"));
+    /// }
+    /// # Ok::<(), Box<dyn std::error::Error>>(())
+    /// ```
+    ///
+    /// # Panics
+    ///
+    /// If `work` panics.
+    #[inline]
+    pub fn done_by<R>(self, work: impl FnOnce(Self) -> R) -> R {
+        let _doing = self.doer.begin();
+        work(self)
     }
 }
 

@@ -1,10 +1,12 @@
 //! One side goes away. A client that is dropped has ended, so its server closes; a client of a house that was dropped gets an error.
 //! So each of these ends, within a second, and none leaves a thread that waits for ever.
 
+mod within;
+
 use cbs::{Client, Ended, House, Job, JobError, Mode, Plan, Refused, SendError};
-use std::sync::mpsc;
 use std::thread::{self, JoinHandle};
 use std::time::Duration;
+use within::within_a_second;
 
 fn open<T>(servers: usize, ring: usize) -> (House<T>, Vec<Client<T>>) {
     let mut plan = Plan::new();
@@ -15,24 +17,6 @@ fn open<T>(servers: usize, ring: usize) -> (House<T>, Vec<Client<T>>) {
         plan.admit(1, 4, *mode).unwrap();
     }
     plan.open(4, ring).unwrap()
-}
-
-/// Does this on a thread of its own, and fails if that takes more than a second, or than what `CBS_TEST_SECONDS` says: under
-/// valgrind all takes longer.
-fn within_a_second(work: impl FnOnce() + Send + 'static) {
-    let (done, is_done) = mpsc::channel();
-    let worker = thread::spawn(move || {
-        work();
-        done.send(()).expect("somebody waits for it");
-    });
-    let seconds = std::env::var("CBS_TEST_SECONDS").map_or(1, |word| word.parse().unwrap());
-    let ended = is_done.recv_timeout(Duration::from_secs(seconds));
-    assert_ne!(
-        ended,
-        Err(mpsc::RecvTimeoutError::Timeout),
-        "it takes more than a second"
-    );
-    worker.join().expect("the test does not panic");
 }
 
 /// Sends so many jobs, and waits for a place in the ring.
