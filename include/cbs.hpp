@@ -162,6 +162,30 @@ struct Counts {
     std::uint64_t most_behind;        // the most that this was
 };
 
+// What becomes of less than a tick that a unit took beyond whole ticks.
+enum class Rounding {
+    Up,    // the unit pays for a whole tick
+    Carry, // the rest is carried to the next unit of the unit's server
+};
+
+// What the host of a house does next. Then the host reads its clock, and asks again.
+struct Next {
+    enum class Kind : std::uint32_t {
+        Unit = CBS_NEXT_UNIT,          // nothing more: the unit was done
+        Sleep = CBS_NEXT_SLEEP,        // sleeps until the host's clock shows `until`
+        Listen = CBS_NEXT_LISTEN,      // asks at once: the house listens for its bell from now on
+        Wait = CBS_NEXT_WAIT,          // waits by House::wait, and until `until` at most
+        Over = CBS_NEXT_OVER,          // ends: every server is closed, and every job is finished
+        ClockEnd = CBS_NEXT_CLOCK_END, // ends: the clock of the house stands at its end, 10^12
+        NoMemory = CBS_NEXT_NO_MEMORY, // asks later: a job stays in its ring
+    };
+
+    Kind kind;
+    std::size_t taken;                             // how many messages were taken, ends included
+    std::optional<std::chrono::nanoseconds> until; // of Sleep and Wait; none for no end
+    std::optional<Unit> unit;                      // of Unit: the unit that was done
+};
+
 // ---- Not for programs ----
 
 namespace detail {
@@ -184,6 +208,16 @@ inline std::chrono::nanoseconds time_of(std::uint64_t nanoseconds) {
     using Count = std::chrono::nanoseconds::rep;
     const auto most = static_cast<std::uint64_t>(std::numeric_limits<Count>::max());
     return std::chrono::nanoseconds(static_cast<Count>(std::min(nanoseconds, most)));
+}
+
+// Returns so much time for cbs.h, and 0 for less than none.
+inline std::uint64_t nanoseconds_of(std::chrono::nanoseconds time) {
+    return time.count() < 0 ? 0 : static_cast<std::uint64_t>(time.count());
+}
+
+inline Counts counts_of(const struct ::cbs_counts &seen) {
+    return {seen.units,   seen.overruns, time_of(seen.longest),
+            seen.charged, seen.behind,   seen.most_behind};
 }
 
 // Owns a handle of cbs.h.
@@ -323,6 +357,22 @@ struct Opening {
 };
 
 } // namespace detail
+
+// The pace of a house, for a loop of the program's own. House::pace begins the time.
+class Pacer {
+public:
+    // Returns what was seen so far. A unit counts from when the unit ends.
+    Counts counts() const noexcept {
+        struct ::cbs_counts seen;
+        ::cbs_counts(&own, &seen);
+        return detail::counts_of(seen);
+    }
+
+private:
+    friend House;
+    Pacer() = default;
+    cbs_pacer own{};
+};
 
 // ---- Jobs ----
 
@@ -557,8 +607,7 @@ public:
         struct ::cbs_view told;
         detail::must(::cbs_view(handle.get(), number(server), &told));
         return {told.budget,   detail::tick_of(told.deadline_low, told.deadline_high),
-                told.accepted, told.finished,
-                told.throttled, told.closed};
+                told.accepted, told.finished, told.throttled, told.closed};
     }
 
     // Returns what a server was charged, in ticks.
@@ -622,6 +671,68 @@ public:
         detail::must(cbs_charge(handle.get(), number(server), ticks));
     }
 
+    // ---- A loop of the program's own, in real time ----
+    //
+    // Readings are of any clock that the program likes. House::wait wants std::chrono::steady_clock.
+    // Realtime, below, is such a loop.
+
+    // Begins the time of the house, at this reading of the host's clock. A tick is at least a
+    // nanosecond long.
+    //
+    // Returns the pacer.
+    Pacer pace(std::chrono::nanoseconds tick, Rounding rounding, std::chrono::nanoseconds time) {
+        Pacer pacer;
+        detail::must(cbs_pace(handle.get(), detail::nanoseconds_of(tick), rounding == Rounding::Carry,
+                              detail::nanoseconds_of(time), &pacer.own));
+        return pacer;
+    }
+
+    // Takes a reading of the host's clock, ends and charges the unit before, and polls each server
+    // once. If the tick of a unit has come, the unit is done: `work` does those of plain tokens.
+    //
+    // Returns what the host does next. Throws what the unit throws: then call done, or ask again.
+    Next next(Pacer &pacer, std::chrono::nanoseconds time, const Work &work = Work()) {
+        struct ::cbs_next told;
+        detail::must(::cbs_next(handle.get(), &pacer.own, detail::nanoseconds_of(time), &told));
+        return follows(told, work);
+    }
+
+    // Does what next does, but charges the unit before the time `took`, by whatever clock. More
+    // than the time since the last reading is not charged.
+    Next next_measured(Pacer &pacer, std::chrono::nanoseconds time, std::chrono::nanoseconds took,
+                       const Work &work = Work()) {
+        struct ::cbs_next told;
+        detail::must(cbs_next_measured(handle.get(), &pacer.own, detail::nanoseconds_of(time),
+                                       detail::nanoseconds_of(took), &told));
+        return follows(told, work);
+    }
+
+    // Ends the unit before at this reading, and charges the unit. This is for a host that stops
+    // asking, for now or for ever.
+    void done(Pacer &pacer, std::chrono::nanoseconds time) {
+        detail::must(cbs_done(handle.get(), &pacer.own, detail::nanoseconds_of(time)));
+    }
+
+    // Does what done does, but charges the time `took`, as next_measured does.
+    void done_measured(Pacer &pacer, std::chrono::nanoseconds time, std::chrono::nanoseconds took) {
+        detail::must(cbs_done_measured(handle.get(), &pacer.own, detail::nanoseconds_of(time),
+                                       detail::nanoseconds_of(took)));
+    }
+
+    // Waits for a send, an end, a client that is freed or a stop. The wait ends when
+    // std::chrono::steady_clock shows `until`, if there is an end. Call this after an answer
+    // Kind::Wait alone: otherwise the house does not listen, and wakes by the clock alone.
+    void wait(std::optional<std::chrono::nanoseconds> until) {
+        detail::must_hold(shared != nullptr, CBS_CALL_NOT_OPEN);
+        cbs_clock_wait(shared->bell.get(), until ? detail::nanoseconds_of(*until) : UINT64_MAX);
+    }
+
+    // Returns whether the house was told to stop, and forgets that. Look before each question.
+    bool is_told_to_stop() {
+        detail::must_hold(shared != nullptr, CBS_CALL_NOT_OPEN);
+        return cbs_bell_stopped(shared->bell.get());
+    }
+
 private:
     friend Plan;
     friend Realtime;
@@ -673,6 +784,21 @@ private:
             return {std::nullopt, told.kind == CBS_RUN_CLOCK_END};
         }
         return {does(told, work), false};
+    }
+
+    Next follows(const struct ::cbs_next &told, const Work &work) {
+        make_room(told.taken);
+        Next answer{static_cast<Next::Kind>(told.kind), told.taken, std::nullopt, std::nullopt};
+        if (told.until != UINT64_MAX && (answer.kind == Next::Kind::Sleep || answer.kind == Next::Kind::Wait)) {
+            answer.until = detail::time_of(told.until);
+        }
+        if (answer.kind == Next::Kind::Listen) {
+            cbs_bell_listen(shared->bell.get());
+        }
+        if (answer.kind == Next::Kind::Unit) {
+            answer.unit = does(told.unit, work);
+        }
+        return answer;
     }
 
     void leave() noexcept {
@@ -761,12 +887,6 @@ private:
 
 // ---- Real time: by the serving thread ----
 
-// What becomes of less than a tick that a unit took.
-enum class Rounding {
-    Up,    // the unit pays for a whole tick
-    Carry, // the rest is carried to the next unit of the unit's server
-};
-
 // The time that a unit is charged for.
 enum class Measure {
     Time,          // that of the monotonic clock, from one question to the next
@@ -785,7 +905,7 @@ public:
              Measure measure = Measure::Time)
         : served(house),
           shared(house.shared),
-          own(cbs_realtime_of(static_cast<std::uint64_t>(std::max<std::int64_t>(tick.count(), 1)),
+          own(cbs_realtime_of(detail::nanoseconds_of(std::max(tick, std::chrono::nanoseconds(1))),
                               shared ? shared->bell.get() : nullptr, does, this)) {
         detail::must_hold(shared != nullptr, CBS_CALL_NOT_OPEN);
         own.carry = rounding == Rounding::Carry;
@@ -838,11 +958,7 @@ public:
     std::size_t taken() const noexcept { return own_taken; }
 
     // Returns what was seen so far. A unit counts from when the unit ends.
-    Counts counts() const noexcept {
-        const struct ::cbs_counts &seen = own.counts;
-        return {seen.units,   seen.overruns, detail::time_of(seen.longest),
-                seen.charged, seen.behind,   seen.most_behind};
-    }
+    Counts counts() const noexcept { return detail::counts_of(own.counts); }
 
 private:
     static void does(void *context, const cbs_unit *unit) {

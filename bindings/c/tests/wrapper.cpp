@@ -6,6 +6,7 @@
 #include <atomic>
 #include <chrono>
 #include <functional>
+#include <future>
 #include <memory>
 #include <optional>
 #include <stdexcept>
@@ -292,6 +293,70 @@ static void steps() {
     CHECK(some.counts().units == 1);
 }
 
+// A loop of its own, by a clock of its own: units of 3 ms, at ticks of 1 ms.
+static void a_loop_of_its_own() {
+    using Kind = cbs::Next::Kind;
+    auto [house, clients] = open(cbs::Mode::Throttled, 4, 4);
+    std::chrono::nanoseconds now = 1s;
+    cbs::Pacer pacer = house.pace(1ms, cbs::Rounding::Up, now);
+    CHECK(clients[0].send([&now, state = std::make_unique<State>()](const cbs::Unit &) { now += 3ms; }, 1) == cbs::Send::Sent);
+    cbs::Next next = house.next(pacer, now);
+    CHECK(next.kind == Kind::Unit && next.taken == 1 && next.unit && next.unit->last && !next.until);
+    CHECK(State::alive == 0 && pacer.counts().units == 0);
+    house.done(pacer, now);
+    CHECK(pacer.counts().units == 1 && pacer.counts().charged == 2 && pacer.counts().longest == 3ms);
+    CHECK(clients[0].send(7, 1) == cbs::Send::Sent);
+    next = house.next(pacer, now); // the job is taken, and its server waits for its deadline
+    CHECK(next.taken == 1);
+    for (; next.kind != Kind::Unit; next = house.next_measured(pacer, now, 0ms)) {
+        CHECK(next.kind == Kind::Listen || next.until);
+        now = next.until.value_or(now);
+    }
+    CHECK(next.unit->token == 7 && now == 1012ms); // three periods pay for three ticks
+    house.done_measured(pacer, now + 5ms, 1ms);
+    CHECK(pacer.counts().charged == 2 && pacer.counts().units == 2);
+    CHECK(house.next(pacer, now).kind == Kind::Listen);
+    next = house.next(pacer, now);
+    CHECK(next.kind == Kind::Wait && next.until > std::chrono::hours(1)); // until the clock's end
+    house.wait(std::chrono::steady_clock::now().time_since_epoch() + 1ms); // nobody rings
+    CHECK(house.next(pacer, now).kind == Kind::Listen && house.next(pacer, now).kind == Kind::Wait);
+    house.stop();
+    house.wait(std::nullopt);
+    CHECK(house.is_told_to_stop() && !house.is_told_to_stop());
+    CHECK(clients[0].send([](const cbs::Unit &) { throw std::runtime_error("a unit fails"); }, 1) == cbs::Send::Sent);
+    clients.clear();
+    try {
+        while (house.next(pacer, now += 1ms).kind != Kind::Over) {
+        }
+        CHECK(false);
+    } catch (const std::runtime_error &) {
+    }
+    while (next.kind != Kind::Over) {
+        next = house.next(pacer, now);
+        now = next.until.value_or(now);
+    }
+    CHECK(pacer.counts().units == 3);
+}
+
+// A job that is a task: its future has the result, or says that the job was freed before.
+static void tasks() {
+    std::optional<cbs::Opened> opened = open(cbs::Mode::Soft, 4, 4);
+    std::packaged_task<std::uint64_t(cbs::Unit)> task([](const cbs::Unit &unit) { return unit.seq + 42; });
+    std::packaged_task<int(cbs::Unit)> other([](const cbs::Unit &) { return 1; });
+    std::future<std::uint64_t> result = task.get_future();
+    std::future<int> broken = other.get_future();
+    CHECK(opened->clients[0].send(std::move(task), 1) == cbs::Send::Sent);
+    CHECK(opened->clients[0].send(std::move(other), 1) == cbs::Send::Sent);
+    CHECK(opened->house.turn().ran.unit && result.get() == 42);
+    opened.reset();
+    try {
+        broken.get();
+        CHECK(false);
+    } catch (const std::future_error &error) {
+        CHECK(error.code() == std::future_errc::broken_promise);
+    }
+}
+
 // Two senders, one of jobs, and one of plain tokens that are pointers, over rings of one place.
 static void two_senders() {
     constexpr std::uint32_t JOBS = 300;
@@ -380,6 +445,8 @@ int main() {
     a_unit_throws();
     stops();
     steps();
+    a_loop_of_its_own();
+    tasks();
     two_senders();
     houses_go();
     std::puts("cbs.hpp: each call, and no job is lost");
