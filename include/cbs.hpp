@@ -4,7 +4,7 @@
 //     cbs::Plan plan;
 //     plan.admit(2, 5, cbs::Mode::Soft);         // server 0: 2 ticks in every 5
 //     auto [house, clients] = plan.open(8, 8);   // a client for each server
-//     clients[0].send([](const cbs::Unit &unit) { /* one unit of work */ }, 3);
+//     cbs::Send sent = clients[0].send([](const cbs::Unit &) { /* a unit of work */ }, 3);
 //     clients.clear();                           // nobody sends any more
 //     cbs::Realtime realtime(house, std::chrono::milliseconds(1));
 //     realtime.run();                            // returns when all is over
@@ -21,16 +21,16 @@
 // WHEN A JOB IS FREED. After the job's last unit, on the serving thread, also if that unit throws.
 // With the house, if the job is not finished. By the caller, if the job was refused.
 //
-// ERRORS. Misuse throws Error, which has the status of cbs.h. So do the lack of memory and the end
-// of the clock. A call that throws Error changes nothing. What a sender has to expect is the enum
-// Send, and no exception. Where C++ finds no memory, std::bad_alloc is thrown.
+// ERRORS. Misuse throws Error, which has the status of cbs.h, and changes nothing. So do the lack of
+// memory for a job and the end of the clock, and nothing is lost then. What a sender has to expect
+// is the enum Send, and no exception. Where C++ finds no memory, std::bad_alloc is thrown.
 //
 // THREADS. A house is for one thread at a time, and a client is for one thread at a time. That
 // holds of const functions, too. House::stop and a Stopper may be called from any thread. What a
 // thread wrote before a send is seen by each unit of that job. The thread sanitizer knows so.
 //
-// NOT OPEN. A house or a client that was moved from, or made with no argument, is not open. Its
-// calls throw Error with CBS_CALL_NOT_OPEN.
+// NOT OPEN. A house or a client that was moved from, or made with no argument, is not open. Calls
+// throw Error with CBS_CALL_NOT_OPEN then.
 //
 // UNITS. A tick is the time of one unit of one job. Clocks, deadlines and budgets are in ticks.
 #ifndef CBS_HPP
@@ -321,7 +321,9 @@ private:
         std::atomic<Callable *> job{nullptr};
     };
 
-    std::atomic<Callable *> &at(std::uint64_t seq) noexcept { return slots[seq % slots.size()].job; }
+    std::atomic<Callable *> &at(std::uint64_t seq) noexcept {
+        return slots[seq % slots.size()].job;
+    }
 
     std::vector<Slot> slots;
     std::atomic<std::uint64_t> sent{0};
@@ -383,8 +385,10 @@ public:
     // An empty job, which cannot be sent.
     Job() = default;
 
-    template <class F, class = std::enable_if_t<!std::is_same_v<std::decay_t<F>, Job> &&
-                                                std::is_invocable_v<std::decay_t<F> &, const Unit &>>>
+    // A job of this callable.
+    template <class F,
+              class = std::enable_if_t<!std::is_same_v<std::decay_t<F>, Job> &&
+                                       std::is_invocable_v<std::decay_t<F> &, const Unit &>>>
     Job(F &&callable)
         : own(std::make_unique<detail::CallableOf<std::decay_t<F>>>(std::forward<F>(callable))) {}
 
@@ -500,7 +504,9 @@ private:
         }
     }
 
-    Send send_own(std::unique_ptr<detail::Callable> &job, std::uint64_t token, std::uint32_t units) {
+    // Sends a job, or a plain token if there is no job. The job is handed back unless it was sent.
+    Send send_own(std::unique_ptr<detail::Callable> &job, std::uint64_t token,
+                  std::uint32_t units) {
         detail::must_hold(shared != nullptr, CBS_CALL_NOT_OPEN);
         detail::Lane &lane = shared->lanes[own_server];
         const bool callable = job != nullptr;
@@ -673,8 +679,9 @@ public:
 
     // ---- A loop of the program's own, in real time ----
     //
-    // Readings are of any clock that the program likes. House::wait wants std::chrono::steady_clock.
-    // Realtime, below, is such a loop.
+    // Readings are of any clock that the program likes. House::wait wants those of
+    // std::chrono::steady_clock.
+    // Realtime is such a loop, ready made.
 
     // Begins the time of the house, at this reading of the host's clock. A tick is at least a
     // nanosecond long.
@@ -682,7 +689,8 @@ public:
     // Returns the pacer.
     Pacer pace(std::chrono::nanoseconds tick, Rounding rounding, std::chrono::nanoseconds time) {
         Pacer pacer;
-        detail::must(cbs_pace(handle.get(), detail::nanoseconds_of(tick), rounding == Rounding::Carry,
+        const bool carry = rounding == Rounding::Carry;
+        detail::must(cbs_pace(handle.get(), detail::nanoseconds_of(tick), carry,
                               detail::nanoseconds_of(time), &pacer.own));
         return pacer;
     }
@@ -770,7 +778,10 @@ private:
             mine.begun = unit.seq + 1;
         }
         detail::Callable *job = mine.current.get();
-        const std::unique_ptr<detail::Callable> last = unit.last ? std::move(mine.current) : nullptr;
+        std::unique_ptr<detail::Callable> last; // frees the job, also if the unit throws
+        if (unit.last) {
+            last = std::move(mine.current);
+        }
         if (job != nullptr) {
             job->call(unit);
         } else if (work) {
@@ -789,7 +800,8 @@ private:
     Next follows(const struct ::cbs_next &told, const Work &work) {
         make_room(told.taken);
         Next answer{static_cast<Next::Kind>(told.kind), told.taken, std::nullopt, std::nullopt};
-        if (told.until != UINT64_MAX && (answer.kind == Next::Kind::Sleep || answer.kind == Next::Kind::Wait)) {
+        const bool until = answer.kind == Next::Kind::Sleep || answer.kind == Next::Kind::Wait;
+        if (until && told.until != UINT64_MAX) {
             answer.until = detail::time_of(told.until);
         }
         if (answer.kind == Next::Kind::Listen) {

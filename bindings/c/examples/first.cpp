@@ -11,14 +11,14 @@ struct Wanted {
     std::uint32_t units;
 };
 
-// The sender's thread. It owns the client, so the end is sent however this function is left.
+// The sender's thread. This function owns the client, so the end is sent however it is left.
 static void sends(cbs::Client client) {
     for (const Wanted &wanted : {Wanted{"wash", 2}, Wanted{"dry", 1}}) {
-        // The job: called once for each of its units, by the serving thread, and freed then.
+        // The job: the serving thread calls it once for each of its units, and then frees it.
         cbs::Job job = [wanted, done = 0U](const cbs::Unit &) mutable {
             std::printf("%s: %u of %u\n", wanted.name, ++done, unsigned{wanted.units});
         };
-        // While the ring is full this waits.
+        // This waits while the ring is full.
         if (client.blocking_send(std::move(job), wanted.units) != cbs::Send::Sent) {
             return; // the house is gone
         }
@@ -27,7 +27,7 @@ static void sends(cbs::Client client) {
 
 int main() {
     try {
-        std::future<void> sent; // joined after the house is freed: a sender that is still at work then ends
+        std::future<void> sent; // joins the sender, after the house below is freed
         cbs::Plan plan;
         plan.admit(2, 5, cbs::Mode::Soft); // 2 ticks in every 5
         auto [house, clients] = plan.open(8, 8);
@@ -35,7 +35,8 @@ int main() {
         cbs::Realtime realtime(house, std::chrono::milliseconds(1)); // the length of a tick
         realtime.run(); // until the client is gone and its jobs are finished
         sent.get();     // throws what the sender threw
-        std::printf("%llu units are done\n", static_cast<unsigned long long>(realtime.counts().units));
+        const unsigned long long units = realtime.counts().units;
+        std::printf("%llu units are done\n", units);
     } catch (const std::exception &error) {
         std::fprintf(stderr, "%s\n", error.what());
         return 1;
