@@ -21,9 +21,10 @@
 // WHEN A JOB IS FREED. After the job's last unit, on the serving thread, also if that unit throws.
 // With the house, if the job is not finished. By the caller, if the job was refused.
 //
-// ERRORS. Misuse throws Error, which has the status of cbs.h, and changes nothing. So do the lack of
-// memory for a job and the end of the clock, and nothing is lost then. What a sender has to expect
-// is the enum Send, and no exception. Where C++ finds no memory, std::bad_alloc is thrown.
+// ERRORS. Misuse throws Error, which has the status of cbs.h, and changes nothing. The lack of
+// memory for a job and the end of the clock throw Error, too, and nothing is lost then. What a
+// sender has to expect is the enum Send, and no exception. Where C++ finds no memory,
+// std::bad_alloc is thrown.
 //
 // THREADS. A house is for one thread at a time, and a client is for one thread at a time. That
 // holds of const functions, too. House::stop and a Stopper may be called from any thread. What a
@@ -65,7 +66,8 @@ class Realtime;
 
 // Returns what a status of cbs.h means, in English.
 inline std::string status_text(std::uint32_t status) {
-    std::string text(cbs_status_text(status, std::string(1, ' ').data(), 0), ' ');
+    char nowhere;
+    std::string text(cbs_status_text(status, &nowhere, 0), ' ');
     cbs_status_text(status, text.data(), text.size());
     return text;
 }
@@ -84,7 +86,7 @@ private:
 
 // What came of a send or of an end.
 enum class Send {
-    Sent,      // the house will take what was sent
+    Sent,      // the job or the end stands in the client's ring
     RingFull,  // nothing was sent: try again after the house has polled
     Ended,     // nothing was sent: the client has ended
     HouseGone, // nothing was sent: the house was freed
@@ -162,7 +164,7 @@ struct Counts {
     std::uint64_t most_behind;        // the most that this was
 };
 
-// What becomes of less than a tick that a unit took beyond whole ticks.
+// What becomes of the rest of a unit, if that rest is less than a tick.
 enum class Rounding {
     Up,    // the unit pays for a whole tick
     Carry, // the rest is carried to the next unit of the unit's server
@@ -581,7 +583,7 @@ public:
     }
     ~House() { leave(); }
 
-    // Returns how many servers the house has, numbered from 0; 0 if the house is not open.
+    // Returns how many servers the house has, numbered from 0. A house that is not open has none.
     std::size_t servers() const noexcept { return served.size(); }
 
     // Tells the house to stop, from any thread, as long as the house is there and is not moved.
@@ -643,6 +645,33 @@ public:
         detail::must(::cbs_turn(handle.get(), &told));
         make_room(told.took);
         return {told.took, told.advanced, ran(told.ran, work), told.out_of_memory, told.over};
+    }
+
+    // Takes turns until every client has ended or was freed and every job is finished, or until the
+    // house is told to stop. While there is nothing to do the thread sleeps. Nothing is measured.
+    //
+    // Returns why the serving ended. Throws what a unit throws.
+    // Throws Error with CBS_HOUSE_OUT_OF_MEMORY if there is no memory for a job, and with
+    // CBS_HOUSE_CLOCK_END after 10^12 ticks. Nothing is lost: this may be called again.
+    Ended run_until_closed(const Work &work = Work()) {
+        bool listens = false;
+        while (!is_told_to_stop()) {
+            const Turn told = turn(work);
+            detail::must_hold(!told.ran.clock_end, CBS_HOUSE_CLOCK_END);
+            detail::must_hold(!told.out_of_memory, CBS_HOUSE_OUT_OF_MEMORY);
+            if (told.over) {
+                return Ended::Closed;
+            }
+            const bool idle = told.took == 0 && told.advanced == 0 && !told.ran.unit;
+            if (idle && listens) {
+                cbs_bell_wait(shared->bell.get(), UINT64_MAX);
+            } else if (idle) {
+                // And one more turn, lest a message came before.
+                cbs_bell_listen(shared->bell.get());
+            }
+            listens = idle && !listens;
+        }
+        return Ended::Stopped;
     }
 
     // Takes the next message of one server, if there is a message and room for the message.
@@ -908,7 +937,7 @@ enum class Measure {
 // A house in real time. A tick has a length, units are measured and charged, and the serving thread
 // sleeps while there is nothing to do. cbs_realtime.h says how.
 //
-// The house stays where it is, as long as the Realtime is there.
+// The house is neither moved nor freed, as long as the Realtime is there.
 class Realtime {
 public:
     // Serves this house at a tick of that length, at least a nanosecond. The time of the house

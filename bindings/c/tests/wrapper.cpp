@@ -5,6 +5,7 @@
 #include <array>
 #include <atomic>
 #include <chrono>
+#include <cstdlib>
 #include <functional>
 #include <future>
 #include <memory>
@@ -17,6 +18,41 @@
 #include <vector>
 
 using namespace std::chrono_literals;
+
+// The program's own heap, in the place of the library's, which refuses if it is told to.
+extern "C" {
+struct rattle_block {
+    bool ok;
+    void *at;
+};
+
+rattle_block rattle_alloc(std::size_t size, std::size_t align);
+rattle_block rattle_realloc(void *block, std::size_t kept, std::size_t size, std::size_t align);
+void rattle_dealloc(void *block);
+}
+
+static std::atomic<long> granted{-1}; // so many allocations are granted from now on; -1 for all
+static char nowhere;
+
+static rattle_block block_at(void *block, std::size_t size) {
+    void *at = granted != 0 ? std::realloc(block, size) : nullptr;
+    if (granted > 0) {
+        granted--;
+    }
+    return {at != nullptr, at != nullptr ? at : &nowhere};
+}
+
+rattle_block rattle_alloc(std::size_t size, std::size_t align) {
+    return block_at(nullptr, size != 0 ? size : align);
+}
+
+rattle_block rattle_realloc(void *block, std::size_t, std::size_t size, std::size_t align) {
+    return block_at(block, size != 0 ? size : align);
+}
+
+void rattle_dealloc(void *block) {
+    std::free(block);
+}
 
 static_assert(!std::is_copy_constructible_v<cbs::House> && std::is_nothrow_move_constructible_v<cbs::House>);
 static_assert(!std::is_copy_constructible_v<cbs::Client> && std::is_nothrow_move_constructible_v<cbs::Client>);
@@ -129,8 +165,36 @@ static void the_clock_ends() {
     house.advance(1000000000000);
     CHECK(clients[0].send(1, 1) == cbs::Send::Sent && house.poll(0) == cbs::Poll::Took);
     CHECK(house.run().clock_end && house.turn().ran.clock_end);
+    throws(CBS_HOUSE_CLOCK_END, [&house = house] { house.run_until_closed(); });
     cbs::Realtime realtime(house, 1us);
     throws(CBS_HOUSE_CLOCK_END, [&] { realtime.run(); });
+}
+
+// Without memory no house is opened, and no job is taken. Nothing is lost, and with memory all goes on.
+static void no_memory() {
+    cbs::Plan plan;
+    plan.admit(1, 4, cbs::Mode::Soft);
+    std::optional<cbs::Opened> opened;
+    for (long number = 0; !opened; number++) {
+        granted = number;
+        try {
+            opened = plan.open(4, 4);
+        } catch (const cbs::Error &error) {
+            CHECK(error.status() == CBS_HOUSE_OUT_OF_MEMORY);
+        }
+    }
+    auto [house, clients] = *std::move(opened);
+    granted = 0;
+    CHECK(clients[0].send(job(), 1) == cbs::Send::Sent && house.poll(0) == cbs::Poll::NoMemory);
+    CHECK(house.turn().out_of_memory && clients[0].waiting() == 1);
+    throws(CBS_HOUSE_OUT_OF_MEMORY, [&house = house] { house.run_until_closed(); });
+    cbs::Pacer pacer = house.pace(1us, cbs::Rounding::Up, 0ns);
+    CHECK(house.next(pacer, 0ns).kind == cbs::Next::Kind::NoMemory);
+    cbs::Realtime realtime(house, 1us);
+    throws(CBS_HOUSE_OUT_OF_MEMORY, [&] { realtime.run(); });
+    granted = -1;
+    clients.clear();
+    CHECK(State::alive == 1 && realtime.run() == cbs::Ended::Closed && State::alive == 0);
 }
 
 // A job that is refused comes back, and is freed by its owner.
@@ -262,6 +326,8 @@ static void stops() {
     CHECK(realtime.run() == cbs::Ended::Stopped && units == 1 && realtime.counts().units == 1);
     clients.clear();
     CHECK(realtime.run() == cbs::Ended::Closed && units == 2);
+    house.stop();
+    CHECK(house.run_until_closed() == cbs::Ended::Stopped && house.run_until_closed() == cbs::Ended::Closed);
     house = cbs::House();
     stopper.stop(); // of a house that is gone
 }
@@ -357,8 +423,9 @@ static void tasks() {
     }
 }
 
-// Two senders, one of jobs, and one of plain tokens that are pointers, over rings of one place.
-static void two_senders() {
+// Two senders, one of jobs, and one of plain tokens that are pointers, over rings of one place. The
+// house is served in real time, or by turns.
+static void two_senders(bool by_turns) {
     constexpr std::uint32_t JOBS = 300;
     cbs::Plan plan;
     plan.admit(1, 2, cbs::Mode::Soft);
@@ -384,10 +451,13 @@ static void two_senders() {
         const cbs::Client ends = std::move(client);
     });
     clients.clear();
-    cbs::Realtime realtime(house, 10us);
-    CHECK(realtime.run([&sums](const cbs::Unit &unit) {
+    std::uint64_t units = 0;
+    const cbs::Work work = [&sums, &units](const cbs::Unit &unit) {
         sums[unit.server] += *reinterpret_cast<std::uint32_t *>(static_cast<std::uintptr_t>(unit.token));
-    }) == cbs::Ended::Closed);
+        units++;
+    };
+    cbs::Realtime realtime(house, 10us);
+    CHECK((by_turns ? house.run_until_closed(work) : realtime.run(work)) == cbs::Ended::Closed);
     of_jobs.join();
     of_tokens.join();
     std::uint64_t wanted[2] = {0, 0};
@@ -396,7 +466,7 @@ static void two_senders() {
         wanted[1] += number;
     }
     CHECK(sums[0] == wanted[0] && sums[1] == wanted[1] && State::alive == 0);
-    CHECK(realtime.counts().units == JOBS * 2 + JOBS);
+    CHECK(units == JOBS && realtime.counts().units == (by_turns ? 0 : 3 * JOBS));
 }
 
 // Houses go while two senders of each are at work, and would be for ever. Each job that does not
@@ -439,6 +509,7 @@ int main() {
     plans();
     by_hand();
     the_clock_ends();
+    no_memory();
     refused();
     unfinished();
     moves();
@@ -447,7 +518,8 @@ int main() {
     steps();
     a_loop_of_its_own();
     tasks();
-    two_senders();
+    two_senders(false);
+    two_senders(true);
     houses_go();
     std::puts("cbs.hpp: each call, and no job is lost");
 }
