@@ -111,7 +111,8 @@ struct Unit {
     bool last;           // whether this is the last unit of the job
 };
 
-// Does the units of plain tokens. Units of jobs that are callables call these.
+// Does the units of plain tokens. The unit of a job that is a callable calls the job. A plain token
+// whose house is served with no Work has units that do nothing.
 using Work = std::function<void(const Unit &unit)>;
 
 // What a server shows.
@@ -449,7 +450,7 @@ public:
     }
 
     // Sends a job, and waits while the ring is full. Returns and throws as send does, but never
-    // returns Send::RingFull. The serving thread would wait for itself.
+    // returns Send::RingFull. Do not call this from the thread that serves: no place comes free.
     [[nodiscard]] Send blocking_send(Job &&job, std::uint32_t units) {
         return blocking([&] { return send(std::move(job), units); });
     }
@@ -553,7 +554,7 @@ private:
 // Tells a house to stop, from any thread. A stopper may be copied, and may outlive the house.
 class Stopper {
 public:
-    // Tells the house to stop. The call that serves returns after the unit that is being done.
+    // Tells the house to stop, as House::stop does.
     void stop() const noexcept { cbs_bell_stop(shared->bell.get()); }
 
 private:
@@ -566,7 +567,8 @@ private:
 // rings too. A unit may look at its house, but may neither serve nor free the house.
 //
 // The functions that name a server throw Error with CBS_HOUSE_NO_SUCH_SERVER if the house has no
-// server of that number. Each function throws Error with CBS_CALL_NOT_OPEN.
+// server of that number. All but servers() throw Error with CBS_CALL_NOT_OPEN if the house is not
+// open.
 class House {
 public:
     // A house that is not open.
@@ -586,7 +588,9 @@ public:
     // Returns how many servers the house has, numbered from 0. A house that is not open has none.
     std::size_t servers() const noexcept { return served.size(); }
 
-    // Tells the house to stop, from any thread, as long as the house is there and is not moved.
+    // Tells the house to stop, from any thread, as long as the house is there and is not moved. The
+    // call that serves returns after the unit that is being done. If no call serves, the next one
+    // returns at once.
     void stop() const { stopper().stop(); }
 
     // Returns what tells this house to stop, from any thread, also after the house is gone.
@@ -687,7 +691,7 @@ public:
     // Does one unit of the server that has the earliest deadline of those who are ready. `work`
     // does the units of plain tokens. The unit takes one tick of the clock.
     //
-    // Returns the unit. Throws what the unit throws.
+    // Returns what the run did. Throws what the unit throws.
     Ran run(const Work &work = Work()) {
         cbs_unit told;
         detail::must(cbs_run(handle.get(), &told));
@@ -709,8 +713,7 @@ public:
     // ---- A loop of the program's own, in real time ----
     //
     // Readings are of any clock that the program likes. House::wait wants those of
-    // std::chrono::steady_clock.
-    // Realtime is such a loop, ready made.
+    // std::chrono::steady_clock. Realtime is such a loop, ready made.
 
     // Begins the time of the house, at this reading of the host's clock. A tick is at least a
     // nanosecond long.
