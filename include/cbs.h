@@ -6,7 +6,7 @@
  * A unit takes one tick of the house's clock; nothing is measured, nothing is interrupted. A program whose unit took
  * longer charges its server the ticks beyond the first (cbs_charge), so that a unit takes no other server's share.
  * In real time a pacer does so (cbs_next), by the readings of the program's clock. cbs_realtime.h,
- * beside this header, is a loop over it: it serves a house in real time.
+ * beside this header, is a loop over it: it serves a house in real time. cbs.hpp has both for C++.
  *
  *     struct cbs_server servers[2] = {{2, 5, CBS_SOFT}, {1, 10, CBS_THROTTLED}};
  *     struct cbs_handle house = CBS_HANDLE_INIT, clients[2] = {CBS_HANDLE_INIT, CBS_HANDLE_INIT};
@@ -68,14 +68,23 @@ extern "C" {
 #if defined(__SANITIZE_THREAD__) && !defined(CBS_TSAN)
 #define CBS_TSAN
 #endif
+/* A cast. C++ has one of its own, of which -Wold-style-cast does not warn. */
+#ifdef __cplusplus
+#define CBS_CAST(type, value) static_cast<type>(value)
+#define CBS_ADDRESS(p) const_cast<void *>(static_cast<const volatile void *>(p))
+#else
+#define CBS_CAST(type, value) ((type)(value))
+#define CBS_ADDRESS(p) ((void *)(p))
+#endif
+
 #ifdef CBS_TSAN
 void __tsan_release(void *address);
 void __tsan_acquire(void *address);
-#define CBS_TSAN_RELEASE(p) __tsan_release((void *)(p))
-#define CBS_TSAN_ACQUIRE(p) __tsan_acquire((void *)(p))
+#define CBS_TSAN_RELEASE(p) __tsan_release(CBS_ADDRESS(p))
+#define CBS_TSAN_ACQUIRE(p) __tsan_acquire(CBS_ADDRESS(p))
 #else
-#define CBS_TSAN_RELEASE(p) ((void)(p))
-#define CBS_TSAN_ACQUIRE(p) ((void)(p))
+#define CBS_TSAN_RELEASE(p) CBS_CAST(void, p)
+#define CBS_TSAN_ACQUIRE(p) CBS_CAST(void, p)
 #endif
 #define CBS_TSAN_END(p) CBS_TSAN_RELEASE(p)
 #define CBS_TSAN_OVER(p) CBS_TSAN_ACQUIRE(p)

@@ -94,8 +94,8 @@ static inline void cbs_bell_listen(struct cbs_bell *bell) {
 
 static inline struct timespec cbs_clock_timespec(uint64_t time) {
     struct timespec at;
-    at.tv_sec = (time_t)(time / 1000000000U);
-    at.tv_nsec = (long)(time % 1000000000U);
+    at.tv_sec = CBS_CAST(time_t, time / 1000000000U);
+    at.tv_nsec = CBS_CAST(long, time % 1000000000U);
     return at;
 }
 
@@ -168,7 +168,7 @@ static inline void cbs_realtime_free(struct cbs_bell *bell, struct cbs_handle *c
 static inline uint64_t cbs_clock_now(void) {
     struct timespec at;
     clock_gettime(CLOCK_MONOTONIC, &at);
-    return (uint64_t)at.tv_sec * 1000000000U + (uint64_t)at.tv_nsec;
+    return CBS_CAST(uint64_t, at.tv_sec) * 1000000000U + CBS_CAST(uint64_t, at.tv_nsec);
 }
 
 static inline void cbs_clock_sleep(uint64_t until) {
@@ -188,7 +188,7 @@ static inline void cbs_clock_wait(struct cbs_bell *bell, uint64_t until) {
 static inline uint64_t cbs_clock_worked(void) {
     struct timespec at;
     clock_gettime(CLOCK_THREAD_CPUTIME_ID, &at);
-    return (uint64_t)at.tv_sec * 1000000000U + (uint64_t)at.tv_nsec;
+    return CBS_CAST(uint64_t, at.tv_sec) * 1000000000U + CBS_CAST(uint64_t, at.tv_nsec);
 }
 #endif
 
@@ -281,30 +281,33 @@ static inline void cbs_realtime_work(struct cbs_realtime *self, struct cbs_handl
 #endif
 }
 
-/* Asks one question, and does what follows from it: a unit, a sleep, or that all is over (over is
- * true then). Between two steps the program may look at the house, at cbs_bell_stopped, and at
- * counts. If it asks no more for now, cbs_realtime_done charges the last unit. Refuses and throws
- * as cbs_realtime_run does. */
-static inline uint32_t cbs_realtime_step(struct cbs_realtime *self, struct cbs_handle *house) {
-    struct cbs_next next;
-    uint32_t status = cbs_realtime_ask(self, house, &next);
-    if (status != CBS_OK) {
-        return status;
-    }
-    self->over = next.kind == CBS_NEXT_OVER;
+/* Does what follows from an answer of cbs_realtime_ask: a unit, a sleep, or that all is over (over
+ * is true then). Refuses and throws as cbs_realtime_run does. */
+static inline uint32_t cbs_realtime_follow(struct cbs_realtime *self, struct cbs_handle *house,
+                                           const struct cbs_next *next) {
+    self->over = next->kind == CBS_NEXT_OVER;
     if (self->over) {
         CBS_TSAN_OVER(self->bell);
     }
-    switch (next.kind) {
-    case CBS_NEXT_UNIT: cbs_realtime_work(self, house, &next.unit); break;
-    case CBS_NEXT_SLEEP: cbs_clock_sleep(next.until); break;
+    switch (next->kind) {
+    case CBS_NEXT_UNIT: cbs_realtime_work(self, house, &next->unit); break;
+    case CBS_NEXT_SLEEP: cbs_clock_sleep(next->until); break;
     case CBS_NEXT_LISTEN: cbs_bell_listen(self->bell); break;
-    case CBS_NEXT_WAIT: cbs_clock_wait(self->bell, next.until); break;
+    case CBS_NEXT_WAIT: cbs_clock_wait(self->bell, next->until); break;
     case CBS_NEXT_CLOCK_END: return CBS_HOUSE_CLOCK_END;
     case CBS_NEXT_NO_MEMORY: return CBS_HOUSE_OUT_OF_MEMORY;
     default: break;
     }
     return CBS_OK;
+}
+
+/* Asks one question, and does what follows from it. Between two steps the program may look at the
+ * house, at cbs_bell_stopped, and at counts. If it asks no more for now, cbs_realtime_done charges
+ * the last unit. Refuses and throws as cbs_realtime_run does. */
+static inline uint32_t cbs_realtime_step(struct cbs_realtime *self, struct cbs_handle *house) {
+    struct cbs_next next;
+    uint32_t status = cbs_realtime_ask(self, house, &next);
+    return status == CBS_OK ? cbs_realtime_follow(self, house, &next) : status;
 }
 
 /* Serves until every client has ended or was freed and all jobs are finished (over is true then),

@@ -18,7 +18,7 @@
 #define UNTOUCHED 0x5a5a5a5a5a5a5a5aU
 
 static inline bool untouched(const void *at, size_t n) {
-    const unsigned char *bytes = (const unsigned char *)at;
+    const unsigned char *bytes = CBS_CAST(const unsigned char *, at);
     for (size_t i = 0; i < n; i++) {
         if (bytes[i] != 0x5a) {
             return false;
