@@ -58,7 +58,7 @@ extern "C" {
  * CBS_TSAN_ACQUIRE(p) before the unit uses p.
  * Nor does it know that what a client's thread did before its end comes before the house tells that all is over. A
  * program that relies on it tells that, too: CBS_TSAN_END(p) before the cbs_end or cbs_free of each client, and
- * CBS_TSAN_OVER(p) once the house has told it. p is then an address that both threads have, as the house's.
+ * CBS_TSAN_OVER(p) once the house has told it. p is then an address that both threads have, of no lock and no atomic.
  * If the program is not compiled with -fsanitize=thread they all do nothing. */
 #if defined(__has_feature)
 #if __has_feature(thread_sanitizer)

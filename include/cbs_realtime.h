@@ -6,8 +6,8 @@
  *     struct cbs_realtime realtime = cbs_realtime_of(1000000, &bell, work, context);
  *     uint32_t status = cbs_realtime_run(&realtime, &house);         returns when all is over
  *
- * It is a loop over cbs_next of cbs.h, which decides. In each tick it polls each server once, and
- * does at most one unit. A unit that takes longer is charged to its server, never rounded down.
+ * It is a loop over cbs_next of cbs.h, which decides. In each tick it takes the messages that came,
+ * at most one of each server, and does at most one unit. A unit that takes longer is charged to its server, never rounded down.
  * While nobody is ready ticks pass, and the loop sleeps until the next deadline of somebody who
  * waits, or until a client rings; so throttled servers wait in real time. The house's clock is
  * ahead of the real one by at most a tick, and no unit begins before its tick. If it is late, units
@@ -64,7 +64,7 @@ static inline void cbs_bell_close(struct cbs_bell *bell) {
 /* Wakes the house, if it sleeps: after a cbs_send or cbs_end that succeeded, and after a client was freed. From any thread.
  * cbs_realtime_send, cbs_realtime_end and cbs_realtime_free below do both. */
 static inline void cbs_bell_ring(struct cbs_bell *bell) {
-    /* The library's rings are seq_cst, too: either this sees that the house listens, or the house sees what was sent. */
+    /* The library's rings and marks are seq_cst, too: either this sees that the house listens, or the house sees what was sent. */
     if (__atomic_exchange_n(&bell->listening, false, __ATOMIC_SEQ_CST)) {
         pthread_mutex_lock(&bell->lock);
         bell->rung = true;
@@ -144,7 +144,7 @@ static inline uint32_t cbs_realtime_send(struct cbs_bell *bell, struct cbs_handl
 /* Sends the end, as cbs_end does, and wakes the house. Returns what cbs_end returns. What this thread did before is seen
  * by whoever saw that all is over; the thread sanitizer is told so. */
 static inline uint32_t cbs_realtime_end(struct cbs_bell *bell, struct cbs_handle *client) {
-    CBS_TSAN_END(bell);
+    CBS_TSAN_END(&bell->rung);
     uint32_t status = cbs_end(client);
     if (status == CBS_OK) {
         cbs_bell_ring(bell);
@@ -155,7 +155,7 @@ static inline uint32_t cbs_realtime_end(struct cbs_bell *bell, struct cbs_handle
 /* Frees a client, as cbs_free does, and wakes the house. The client sends its end, if it has not ended. The thread
  * sanitizer is told as by cbs_realtime_end. */
 static inline void cbs_realtime_free(struct cbs_bell *bell, struct cbs_handle *client) {
-    CBS_TSAN_END(bell);
+    CBS_TSAN_END(&bell->rung);
     cbs_free(client);
     cbs_bell_ring(bell);
 }
@@ -287,7 +287,7 @@ static inline uint32_t cbs_realtime_follow(struct cbs_realtime *self, struct cbs
                                            const struct cbs_next *next) {
     self->over = next->kind == CBS_NEXT_OVER;
     if (self->over) {
-        CBS_TSAN_OVER(self->bell);
+        CBS_TSAN_OVER(&self->bell->rung);
     }
     switch (next->kind) {
     case CBS_NEXT_UNIT: cbs_realtime_work(self, house, &next->unit); break;

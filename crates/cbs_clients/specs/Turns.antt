@@ -57,7 +57,8 @@ module _ {W A : Type 0} {g : Ghosts W} where
   Answered work s old (p ∷ ps) new = (next : House W A g) × Polled work old s p next × Answered work (s + 1) next ps new
 
   -- The house polled its servers below `servers`, each once, in the order of their numbers. A poll that knows of no
-  -- message may be answered by Nothing without a look at the ring. The polls took so many messages, and `out_of_memory` says whether one of them was out of memory for a message.
+  -- message may be answered by Nothing without a look at the ring. The polls took so many messages, and `out_of_memory`
+  -- says whether one of them was out of memory for a message.
   pub record PollsEach (work : Meaning W) (servers : ℕ) (old new : House W A g) (took : ℕ) (out_of_memory : Bool) : Type 0 where
     pub answers : List Poll
     pub all : length answers ≡ servers

@@ -15,7 +15,7 @@ use std::alloc::{Allocator, Global};
 
 /// A house: it owns the core, takes the messages of the clients, and keeps the results.
 ///
-/// All its calls are made from one thread. The clients share only their rings with it.
+/// All its calls are made from one thread. The clients share only their rings and one word of marks with it.
 pub struct House<W: Work, A: Allocator = Global> {
     pub(crate) core: Core<W, A>,
     pub(crate) rings: Rings<W, A>,

@@ -11,8 +11,8 @@ use std::sync::atomic::{AtomicU64, Ordering};
 /// A word that a house shares with its clients, with a bit for each server.
 ///
 /// A client sets the bit of its server each time after it has put a message into its ring. The house takes all bits
-/// before it looks at the rings. So it finds a message whose bit it took, and the bit of a message that it did not find
-/// is still there for the next time.
+/// before it looks at the rings. So it finds a message whose bit it took. The bit of a message that it did not find is
+/// there, or comes, for the next time.
 #[derive(Drop)]
 pub struct Marks<A: Allocator = Global> {
     word: Arc<AtomicU64, A>,

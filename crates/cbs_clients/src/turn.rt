@@ -43,10 +43,10 @@ pub fn poll_each<G: Gate, W: Work, A: Allocator>(gate: &G, house: &mut House<W, 
     }
 }
 
-/// Polls each server once, in the order of their numbers. Returns what the polls did.
+/// Polls the servers, each once and in the order of their numbers, and returns what the polls did.
 ///
 /// It looks only at the rings of clients that left a mark, as each does after it has sent something. Of the others no
-/// message is seen.
+/// message is known, and each of these polls is [`Poll::Nothing`] with no look.
 pub fn poll_marked<W: Work, A: Allocator>(house: &mut House<W, A>) -> Polls
     ensures polled { PollsEach W.meaning (length (core_of house.old).faces) house.old house.new
         result.took result.out_of_memory }

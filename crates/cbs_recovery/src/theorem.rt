@@ -17,7 +17,7 @@ use cbs_steps::Step;
 /// what is free of the ticks from t to d. They are those of servers which are due later than d once they are charged.
 /// Free is what no server has reserved. So a delay is made up at the rate of what is free.
 ///
-/// `of_one`: if one charge of n ticks was made, t is the tick at which these began. So a server whose deadline comes
+/// `of_one`: if one charge of n ticks was made, and no other, t is the tick at which these began. So a server whose deadline comes
 /// late enough after t is not late: if n ticks are free until then.
 pub fn all_recover<W: Work>(plan: &Plan, modes: &Modes, backlog: u64)
     requires { length modes.now ≡ length plan.now.rates }
