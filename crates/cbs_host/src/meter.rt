@@ -60,9 +60,11 @@ impl Meter for NoMeter {
 /// that rounds up charges it ([`Tick::beyond`]). If the clock cannot be read, or goes back, nothing is charged.
 pub struct ClockMeter<'a, R: Clock> {
     rt: &'a R,
-    tick: Tick,
+    // In nanoseconds.
+    tick: u64,
     // The time when the unit began, if the clock could be read.
     begun: Option<Duration>,
+    ghost long: { 0 < tick },
 }
 
 // Dropped by hand, so that the drop has no requirement on the runtime.
@@ -83,7 +85,10 @@ impl<'a, R: Clock> ClockMeter<'a, R> {
         ensures { MatchOption result (as_nanos tick ≡ 0)
             (λ meter. (0 < as_nanos tick) × (meter.tick ≡ nanos_of tick)) }
     {
-        let tick = Tick::new(nanos(tick))?;
+        let tick = nanos(tick);
+        if tick == 0 {
+            return None;
+        }
         Some(ClockMeter {
             rt,
             tick,
@@ -116,11 +121,12 @@ fn nanos(time: Duration) -> u64
 
 /// Returns how many ticks a unit took after its first tick, by the readings of a clock before and after it, rounded up.
 /// It is 0 if a reading is missing, or if the clock went back.
-fn beyond_between(begun: Option<Duration>, ended: Option<Duration>, tick: Tick) -> u64
+fn beyond_between(begun: Option<Duration>, ended: Option<Duration>, tick: u64) -> u64
+    requires { 0 < tick }
     ensures { result ≡ ticks_between begun ended tick }
 {
     let (Some(begun), Some(ended)) = (begun, ended) else {
         return 0;
     };
-    tick.beyond(nanos(ended.saturating_sub(begun)))
+    Tick::at_least_one(tick).beyond(nanos(ended.saturating_sub(begun)))
 }

@@ -12,7 +12,9 @@ use cbsrun_events::{Arrival, Event, View};
 use cbsrun_simulate::seen_by;
 use std::alloc::AllocError;
 
+// Inlined, here and below, so that an event that a view takes apart at once is never built.
 /// Submits a job, and returns the event. The only error is out of memory: then the core is unchanged.
+#[inline(always)]
 fn submit(core: &mut Core<FileJob>, server: u16, task: Task<FileJob>) -> Result<Event, AllocError>
     ensures makes { IfOk result (MakesStep core.old (Step.Submit server task) core.new) }
     ensures unchanged { OnErr result (Follows of_files core.old core.new []) }
@@ -39,6 +41,7 @@ fn submit(core: &mut Core<FileJob>, server: u16, task: Task<FileJob>) -> Result<
 }
 
 /// Makes a step, and returns the event. The only error is out of memory: then the core is unchanged.
+#[inline(always)]
 fn make(core: &mut Core<FileJob>, step: Step<FileJob>) -> Result<Event, AllocError>
     ensures makes { IfOk result (MakesStep core.old step core.new) }
     ensures unchanged { OnErr result (Follows of_files core.old core.new []) }
@@ -66,6 +69,7 @@ fn make(core: &mut Core<FileJob>, step: Step<FileJob>) -> Result<Event, AllocErr
 }
 
 /// Makes a step, and shows it to the view. Refuses if out of memory, or if the view fails.
+#[inline(always)]
 fn show_step<C, V: View<C>>(
     core: &mut Core<FileJob>,
     step: Step<FileJob>,
