@@ -103,7 +103,6 @@ fn view_told(event: Event, view: Option<ServerView>) -> Option<ServerView>
 
 /// Writes the line of a step into `text`, in place of its old content. The line has the clock after the step, the call,
 /// its result, and the state of a server if it shows one. The only error is out of memory.
-#[inline(always)]
 pub fn write_line(text: &mut String, seen: Seen) -> Result<(), AllocError>
     ensures { OnOk result (string_bytes text.new ≡ line_of seen) }
 {

@@ -67,7 +67,6 @@ impl<O: ByteOutput> View<O> for Lines {
 
     ghost failed = { λ first now seen. FailedToWrite now.0 (O.state first.1) (O.state now.1) seen };
 
-    #[inline(always)]
     fn see(&mut self, lent: &mut O, seen: Seen) -> Result<(), AllocError> {
         write_line(&mut self.line, seen)?;
         let Ok(()) = self.pending.push(self.line.as_str(), lent) else {
