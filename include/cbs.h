@@ -269,8 +269,9 @@ uint32_t cbs_greatest_budget(const struct cbs_server *servers, size_t n, uint64_
  * and a library fit if they agree in the first two of these. */
 uint32_t cbs_version(void);
 
-/* Writes the text of a status, in English, ASCII, with no zero byte after it: at most n bytes. Returns the length of the
- * whole text. A number that is no status has a text, too. */
+/* Writes the text of a status, in English, ASCII, and a zero byte after it: at most n bytes, so of a longer text the
+ * first n - 1; nothing if n is 0. Returns the length of the whole text, without the zero byte, as snprintf does. A number
+ * that is no status has a text, too. */
 size_t cbs_status_text(uint32_t status, char *out, size_t n);
 
 /* ---- Of the house: by the serving thread, one call at a time ---- */

@@ -67,8 +67,9 @@ class Realtime;
 // Returns what a status of cbs.h means, in English.
 inline std::string status_text(std::uint32_t status) {
     char nowhere;
-    std::string text(cbs_status_text(status, &nowhere, 0), ' ');
+    std::string text(cbs_status_text(status, &nowhere, 0) + 1, ' ');
     cbs_status_text(status, text.data(), text.size());
+    text.pop_back(); // the zero byte
     return text;
 }
 

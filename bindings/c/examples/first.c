@@ -20,8 +20,8 @@ struct sender {
 static bool is_well(const char *who, uint32_t status) {
     char text[200];
     if (status != CBS_OK) {
-        size_t length = cbs_status_text(status, text, sizeof text);
-        fprintf(stderr, "%s: %.*s\n", who, (int)(length < sizeof text ? length : sizeof text), text);
+        cbs_status_text(status, text, sizeof text);
+        fprintf(stderr, "%s: %s\n", who, text);
     }
     return status == CBS_OK;
 }

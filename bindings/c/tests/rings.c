@@ -1,10 +1,12 @@
-/* The bell of cbs_realtime.h: calls that send and ring, threads that are cancelled while they wait, and what a client did
- * before its end.
+/* The bell of cbs_realtime.h: calls that send and ring, threads that are cancelled while they wait, a signal that stops the house, and
+ * what a client did before its end.
  *
  *     rings [NAME]      all if no name is given */
 #include "cbs_realtime.h"
 #include "check.h"
+#include <signal.h>
 #include <string.h>
+#include <unistd.h>
 
 #define TICK 100000 /* in nanoseconds */
 
@@ -146,6 +148,33 @@ static void is_cancelled(void) {
     }
 }
 
+/* A signal stops a house that sleeps, and another thread waits for it: every thread blocks it, as docs/EMBEDDING.md says. */
+static void *stops_at_a_signal(void *bell) {
+    sigset_t signals;
+    int signal;
+    sigemptyset(&signals);
+    sigaddset(&signals, SIGINT);
+    CHECK(sigwait(&signals, &signal) == 0 && signal == SIGINT);
+    cbs_bell_stop((struct cbs_bell *)bell);
+    return NULL;
+}
+
+static void is_interrupted(void) {
+    pthread_t waiter;
+    sigset_t signals;
+    opens(1, 4);
+    sigemptyset(&signals);
+    sigaddset(&signals, SIGINT);
+    CHECK(pthread_sigmask(SIG_BLOCK, &signals, NULL) == 0);
+    CHECK(pthread_create(&waiter, NULL, stops_at_a_signal, &served.bell) == 0);
+    begins_to_serve();
+    sleeps();
+    CHECK(kill(getpid(), SIGINT) == 0);
+    CHECK(pthread_join(served.thread, NULL) == 0 && pthread_join(waiter, NULL) == 0);
+    CHECK(served.status == CBS_OK && !served.realtime.over);
+    closes();
+}
+
 /* What a client's thread writes before its end, and the serving thread reads once all is over. No thread is joined before. */
 static struct {
     struct cbs_handle client;
@@ -227,6 +256,7 @@ int main(int count, char **words) {
     } cases[] = {{"sends_and_rings", sends_and_rings},
                  {"is_refused", is_refused},
                  {"is_cancelled", is_cancelled},
+                 {"is_interrupted", is_interrupted},
                  {"knows_what_was_before_the_end", knows_what_was_before_the_end},
                  {"knows_what_was_before_the_end_by_turns", knows_what_was_before_the_end_by_turns}};
     int ran = 0;

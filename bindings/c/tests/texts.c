@@ -35,20 +35,25 @@ static const struct {
 /* Numbers that are no status, between the kinds of statuses and after their last. */
 static const uint32_t NONE[] = {1, 0x100, 0x105, 0x200, 0x204, 0x300, 0x308, 0x400, 0x403, 0x500, 0x503, 0x600, 0x606, 0x701, UINT32_MAX};
 
-/* Checks that a status has this text, all of it if there is room, else a prefix of it, and that nothing is written after it. */
+/* Checks that a status has this text, all of it if there is room, else a prefix of it, with a zero byte after it, and that nothing is
+ * written after that. */
 static void has_text(uint32_t status, const char *text) {
     char all[128], front[8];
     size_t length = strlen(text);
     memset(all, '#', sizeof all);
     CHECK(cbs_status_text(status, all, sizeof all) == length && length < sizeof all);
-    CHECK(memcmp(all, text, length) == 0);
-    for (size_t i = length; i < sizeof all; i++) {
+    CHECK(strcmp(all, text) == 0);
+    for (size_t i = length + 1; i < sizeof all; i++) {
         CHECK(all[i] == '#');
     }
+    CHECK(cbs_status_text(status, all, length) == length && memcmp(all, text, length - 1) == 0 && all[length - 1] == 0);
+    CHECK(cbs_status_text(status, all, length + 1) == length && strcmp(all, text) == 0 && all[length + 1] == '#');
     memset(front, '#', sizeof front);
     CHECK(cbs_status_text(status, front, 0) == length && front[0] == '#');
-    CHECK(cbs_status_text(status, front, 2) == length && memcmp(front, text, 2) == 0 && front[2] == '#');
-    CHECK(cbs_status_text(status, front, sizeof front) == length && memcmp(front, text, sizeof front) == 0);
+    CHECK(cbs_status_text(status, front, 1) == length && front[0] == 0 && front[1] == '#');
+    CHECK(cbs_status_text(status, front, 3) == length && memcmp(front, text, 2) == 0 && front[2] == 0 && front[3] == '#');
+    CHECK(cbs_status_text(status, front, sizeof front) == length && strncmp(front, text, sizeof front - 1) == 0);
+    CHECK(front[sizeof front - 1] == 0);
 }
 
 int main(void) {

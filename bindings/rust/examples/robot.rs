@@ -18,11 +18,11 @@ use std::time::{Duration, Instant};
 const TICK: Duration = Duration::from_micros(250);
 
 /// The servers: a name, a budget and a period in ticks, how many units a job has, and each how many milliseconds one is sent; 0 for
-/// as fast as it goes.
+/// as fast as it goes. They have reserved 86 % of the time. The rest makes up for what a flush delays.
 const SERVERS: [(&str, u64, u64, u32, u64); 3] = [
     ("control", 1, 4, 1, 1),
     ("vision", 64, 132, 60, 33),
-    ("logger", 1, 4, 8, 0),
+    ("logger", 1, 8, 8, 0),
 ];
 
 /// What is known of one server's jobs.

@@ -257,7 +257,7 @@ pub(crate) fn greatest_budget(servers: &[Server], period: u64) -> Result<u64, St
 pub(crate) fn status_text(status: u32) -> String {
     let mut text = [0; 256];
     let length = unsafe { cbs_status_text(status, text.as_mut_ptr(), text.len()) };
-    String::from_utf8_lossy(&text[..length.min(text.len())]).into_owned()
+    String::from_utf8_lossy(&text[..length.min(text.len() - 1)]).into_owned() // a zero byte ends it
 }
 
 #[inline]

@@ -1,5 +1,5 @@
 -- What C gets from a call on a handle.
-use Rattle.std.specs.Prelude.{ℕ, ◌≡◌, ◌++◌, Option, Result, Ok, Err, List, take, drop, length}
+use Rattle.std.specs.Prelude.{ℕ, ◌≡◌, ◌++◌, Option, Result, Ok, Err, List, [], ◌∷◌, take, drop, length}
 use Rattle.cbs_embed.specs.Statuses.{refusal_status}
 use Rattle.cbs_embed.specs.declared.held.Held.{Held}
 use Rattle.cbs_embed.specs.declared.refusal.Refusal.{Refusal}
@@ -31,9 +31,15 @@ pub record Answers {T : Type 0} (Does : Option Held → Result T Refusal → Opt
   pub does : Does held answer holds
   pub told : status ≡ status_after answer
 
--- As much of a text as fits is written, the rest of the place is unchanged, and the length of the whole text is
--- returned. This does not say which text a status has.
+-- what a place of bytes has after a text was written into it: as much of the text as fits before a zero byte, this byte,
+-- and what the place had after it; nothing if there is no byte
+abbrev pub ended_by_zero : List ℕ → List ℕ → List ℕ
+ended_by_zero text [] = []
+ended_by_zero text (first ∷ rest) = take (length rest) text ++ 0 ∷ drop (length text) rest
+
+-- A text is written with a zero byte after it, as much as fits, and the length of the whole text is returned. This does
+-- not say which text a status has.
 pub record WritesSomeText (before after : List ℕ) (answer : ℕ) : Type 0 where
   pub text : List ℕ
-  pub written : after ≡ take (length before) text ++ drop (length text) before
+  pub written : after ≡ ended_by_zero text before
   pub whole : answer ≡ length text

@@ -1,7 +1,7 @@
 //! Statuses, and their texts.
 
-ghost use Rattle.std.specs.Prelude.{◌≡◌, ◌++◌, take, drop, length};
-ghost use Rattle.cbs_c.specs.Statuses.{status_after, shown_or, WritesSomeText};
+ghost use Rattle.std.specs.Prelude.{◌≡◌, length};
+ghost use Rattle.cbs_c.specs.Statuses.{status_after, shown_or, ended_by_zero, WritesSomeText};
 
 use cbs_embed::{Refusal, text_of};
 
@@ -29,7 +29,8 @@ pub(crate) fn tell(out: &mut u64, answer: Result<u64, Refusal>) -> u32
     }
 }
 
-/// Writes the text of a status, as much as fits. Returns the length of the whole text.
+/// Writes the text of a status and a zero byte after it, as much as fits, and nothing into no
+/// bytes. Returns the length of the whole text, without the zero byte.
 #[unsafe(no_mangle)]
 pub extern "C" fn cbs_status_text(status: u32, out: &mut [u8]) -> usize
     ensures { WritesSomeText out.old out.new result }
@@ -37,12 +38,16 @@ pub extern "C" fn cbs_status_text(status: u32, out: &mut [u8]) -> usize
     write_text(text_of(status).as_bytes(), out)
 }
 
-/// Writes a text, as much as fits. Returns the length of the whole text.
+/// Writes a text and a zero byte after it, as much as fits, and nothing into no bytes. Returns the
+/// length of the text.
 fn write_text(text: &[u8], out: &mut [u8]) -> usize
-    ensures out { out.new ≡ take (length out.old) text.now ++ drop (length text.now) out.old }
+    ensures out { out.new ≡ ended_by_zero text.now out.old }
     ensures length { result ≡ length text.now }
 {
-    let shown = text.len().min(out.len());
-    out[..shown].copy_from_slice(&text[..shown]);
+    if let Some(room) = out.len().checked_sub(1) {
+        let shown = text.len().min(room);
+        out[..shown].copy_from_slice(&text[..shown]);
+        out[shown] = 0;
+    }
     text.len()
 }
