@@ -1,3 +1,4 @@
+pub mod Blanks
 pub mod Documents
 pub mod OtherSteps
 pub mod PairLines

@@ -8,11 +8,11 @@ use Rattle.cbsrun_tasks.proofs.plain.value_of.Goals as goal
 pub returns : goal.returns
 returns c =
     let is : c.args.s.now ≡ c.args.key.now ++ c.in_ok-named.named.now = c.in_ok-named.ensures in
-    let equals : (first c.skip_ws-rest.result.now == 61) ≡ true = grind (arith, common_steps) in
-    let within = c.skip_ws-rest.ensures.within in
+    let equals : (first c.after_blanks-rest.result.now == 61) ≡ true = grind (arith, common_steps) in
+    let within = c.after_blanks-rest.ensures.within in
     let less = c.skip.ensures.shorter in
-    let at_within = c.skip_ws.ensures.within in
+    let at_within = c.after_blanks.ensures.within in
     let whole : length c.args.s.now ≡ length c.args.key.now + length c.in_ok-named.named.now =
     ap length is ∙ length-append c.args.key.now c.in_ok-named.named.now in
-    starts_pair c.args.s.now c.args.key.now c.in_ok-named.named.now c.skip_ws-rest.result.now c.skip_ws.result.now is c.requires.bare c.requires.some
-    c.skip_ws-rest.ensures.rest equals (c.skip_ws.ensures.rest ∙ ap skip_ws c.skip.ensures.rest) (omega arith)
+    starts_pair c.args.s.now c.args.key.now c.in_ok-named.named.now c.after_blanks-rest.result.now c.after_blanks.result.now is c.requires.bare c.requires.some
+    c.after_blanks-rest.ensures.rest equals (c.after_blanks.ensures.rest ∙ ap skip_ws c.skip.ensures.rest) (omega arith)

@@ -1,0 +1,23 @@
+-- What stands after the blanks at the start of a text.
+use Rattle.std.proofs.Common.{◌≡◌, ℕ, suc, ◌+◌, false, List, [], ◌∷◌, drop, refl, arith, ap}
+use Rattle.std.specs.List.{prefix_len}
+use Rattle.std.proofs.lemmas.Bool.Decides.{nat_tests}
+use Rattle.toml_parser.specs.Lexical.{is_ws, first, skip_ws}
+
+-- one more element is dropped
+drop_one_more : (n c : ℕ) (cs : List ℕ) → drop (1 + n) (c ∷ cs) ≡ drop n cs
+drop_one_more n c cs =
+    let step : 1 + n ≡ suc n = omega arith in
+    ap (λ k. drop k (c ∷ cs)) step
+
+-- a space is skipped
+pub after_space : (s : List ℕ) → first s ≡ 32 → skip_ws s ≡ skip_ws (drop 1 s)
+unfolding skip_ws
+after_space [] space = absurd (grind (arith, nat_tests))
+after_space (c ∷ cs) space = rw space (drop_one_more (prefix_len is_ws cs) 32 cs)
+
+-- where no blank stands nothing is skipped
+pub after_none : (s : List ℕ) → is_ws (first s) ≡ false → skip_ws s ≡ s
+unfolding skip_ws
+after_none [] other = refl
+after_none (c ∷ cs) other = rw other refl
