@@ -48,7 +48,11 @@ fn after_blanks(s: &str) -> &str
     ensures within { length result.now ≤ length s.now }
 {
     let rest = after_space(s);
-    if is_ws(first(rest)) { skip_ws(rest) } else { rest }
+    if is_ws(first(rest)) {
+        skip_ws(rest)
+    } else {
+        rest
+    }
 }
 
 /// Returns the text from the value on of the pair with this key at the start of a text. Returns `None` if no such pair
