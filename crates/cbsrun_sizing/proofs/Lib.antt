@@ -4,6 +4,7 @@ pub mod Joins
 pub mod Charges
 pub mod Greatest
 pub mod LateServers
+pub mod Recovered
 pub mod KeptMoves
 pub mod ServerMoves
 pub mod OwnSources
