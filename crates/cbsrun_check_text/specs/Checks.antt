@@ -1,10 +1,12 @@
 -- The text about a file with no fault.
-use Rattle.std.specs.Prelude.{ℕ, Bool, eqb, ltb, if◌then◌else◌, List, [], ◌++◌, codes, decimal, ◌≡◌, ◌+◌, ◌*◌, length, map}
+use Rattle.std.specs.Prelude.{ℕ, Bool, eqb, ltb, if◌then◌else◌, List, [], ◌++◌, codes, decimal, ◌≡◌, ◌+◌, ◌*◌, length, map, Some, None, IfSome}
 use Rattle.std.specs.List.{list_any, range_with_len}
 use Rattle.cbsrun_loads.specs.Loads.{LoadFile}
 use Rattle.cbsrun_simulate.specs.declared.terms.SourceTerms.{SourceTerms}
 use Rattle.cbsrun_sizing.specs.Lateness.{greatest_delay, BoundsLateness}
+use Rattle.cbsrun_sizing.specs.Recoveries.{free, recovery, IsMadeUpWithin}
 use Rattle.cbs_rate.specs.Plan.{Planned, common_multiple}
+use Rattle.cbs_rate.specs.Rate.{Rate}
 use Rattle.cbs_rules.specs.declared.mode.Mode.{Mode}
 use Rattle.cbsrun_sizing.specs.Budgets.{AreGreatest, left_over, reserved}
 use Rattle.cbsrun_sizing.specs.ServerLoads.{AreServerLoads}
@@ -25,9 +27,25 @@ late_by_text n =
 abbrev pub is_overrunning : List SourceTerms → Bool
 is_overrunning sources = list_any (λ t. ltb 0 t.overrun.greatest) sources
 
--- an empty line, and how late servers can be, if units of a source may overrun
+-- what one unit overruns is made up within this many ticks, by what is free
+unfoldable pub made_up_text : List Rate → ℕ → List ℕ
+made_up_text rates n =
+    codes "What one unit overruns is made up within " ++ decimal n ++ codes " ticks, since " ++ fraction_text (free rates) (common_multiple rates)
+    ++ codes " of the time is free.\n"
+
+-- within how many ticks what one unit overruns is made up, or that it may never be
+abbrev pub recovery_text : LoadFile → List ℕ
+recovery_text f = elim (recovery f) [
+  | None ↦ codes "Every tick is reserved, so what a unit overruns may never be made up.\n"
+  | Some n ↦ made_up_text f.plan.rates n
+]
+
+-- an empty line, how late servers can be, and how soon that is made up, if units of a source may overrun
 abbrev pub lateness_text : LoadFile → List ℕ
-lateness_text f = if is_overrunning f.sources then codes "\n" ++ late_by_text (greatest_delay f) else []
+lateness_text f =
+    if is_overrunning f.sources
+    then codes "\n" ++ late_by_text (greatest_delay f) ++ (if eqb (greatest_delay f) 0 then [] else recovery_text f)
+    else []
 
 -- the first line: that the servers fit, what share of the time they have reserved, and what share is left under the
 -- bound
@@ -70,7 +88,7 @@ pub record IsPlanText (plan : Planned) (modes : List Mode) (text : List ℕ) : T
   pub text_is : text ≡ plan_text (numbered (length plan.rates)) modes plan budgets
 
 -- the text about a load, with the greatest budget of each server, the demand of its sources, and what is promised for
--- them. No server is ever later than the text says
+-- them. No server is ever later than the text says, and what one unit overruns is made up as soon as it says
 pub record IsLoadText (f : LoadFile) (text : List ℕ) : Type 0 where
   pub budgets : List ℕ
   pub loads : List ServerLoad
@@ -78,4 +96,5 @@ pub record IsLoadText (f : LoadFile) (text : List ℕ) : Type 0 where
   pub told : AreServerLoads f (length f.plan.rates) loads
   pub split : IsSplit f.plan
   pub late : BoundsLateness f (greatest_delay f)
+  pub made_up : IfSome (recovery f) (IsMadeUpWithin f)
   pub text_is : text ≡ load_text f budgets loads

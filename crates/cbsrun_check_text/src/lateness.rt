@@ -1,11 +1,13 @@
-//! The text about how late overruns can make the servers of a load.
+//! The text about how late overruns can make the servers of a load, and how soon that is made up.
 
 ghost use Rattle.std.specs.Prelude.{◌≡◌, ◌++◌, OnOk, string_bytes};
-ghost use Rattle.cbsrun_check_text.specs.Checks.{late_by_text, is_overrunning, lateness_text};
+ghost use Rattle.cbsrun_check_text.specs.Checks.{late_by_text, recovery_text, made_up_text, is_overrunning, lateness_text};
 
+use crate::fractions::append_fraction;
+use cbs_rate::Plan;
 use cbsrun_loads::Load;
 use cbsrun_simulate::SourceTerms;
-use cbsrun_sizing::greatest_delay;
+use cbsrun_sizing::{greatest_delay, recovery};
 use cbsrun_text::append_pair;
 use std::alloc::AllocError;
 
@@ -40,8 +42,41 @@ fn append_late_by(text: &mut String, ticks: u128) -> Result<(), AllocError>
     text.push_str(" ticks.\n")
 }
 
-/// Appends an empty line, and how late servers can be, if units of a source of the load may overrun. The only error is
-/// out of memory.
+/// Appends that what one unit overruns is made up within so many ticks, and what part of the time is free for it. The
+/// only error is out of memory.
+#[tactic(auto, unfolding(crate::specs::Checks::made_up_text))]
+fn append_made_up(text: &mut String, plan: &Plan, ticks: u128) -> Result<(), AllocError>
+    ensures { OnOk result (string_bytes text.new ≡ string_bytes text.old
+        ++ made_up_text plan.now.rates ticks) }
+{
+    let reserved = plan.bandwidth();
+    let free = reserved.of.saturating_sub(reserved.ticks);
+    append_pair(text, "What one unit overruns is made up within ", ticks)?;
+    append_fraction(
+        text,
+        " ticks, since ",
+        u128::from(free),
+        u128::from(reserved.of),
+    )?;
+    text.push_str(" of the time is free.\n")
+}
+
+/// Appends within how many ticks what one unit overruns is made up, or that it may never be. The only error is out of
+/// memory.
+fn append_recovery(text: &mut String, load: &Load) -> Result<(), AllocError>
+    ensures { OnOk result (string_bytes text.new ≡ string_bytes text.old
+        ++ recovery_text load.now) }
+{
+    match recovery(load) {
+        Some(ticks) => append_made_up(text, load.plan(), ticks),
+        None => text.push_str(
+            "Every tick is reserved, so what a unit overruns may never be made up.\n",
+        ),
+    }
+}
+
+/// Appends an empty line, how late servers can be, and how soon that is made up, if units of a source of the load may
+/// overrun. The only error is out of memory.
 pub(crate) fn append_lateness(text: &mut String, load: &Load) -> Result<(), AllocError>
     ensures { OnOk result (string_bytes text.new ≡ string_bytes text.old
         ++ lateness_text load.now) }
@@ -50,5 +85,10 @@ pub(crate) fn append_lateness(text: &mut String, load: &Load) -> Result<(), Allo
         return Ok(());
     }
     text.push_str("\n")?;
-    append_late_by(text, greatest_delay(load))
+    let ticks = greatest_delay(load);
+    append_late_by(text, ticks)?;
+    if ticks == 0 {
+        return Ok(());
+    }
+    append_recovery(text, load)
 }

@@ -6,7 +6,7 @@ mod asked;
 mod budgets;
 mod divisor;
 mod lateness;
-mod recovery;
+mod recoveries;
 mod server_load;
 mod shares;
 
@@ -14,6 +14,6 @@ pub use asked::Asked;
 pub use budgets::greatest_budgets;
 pub use divisor::greatest_common_divisor;
 pub use lateness::greatest_delay;
-pub use recovery::recovery;
+pub use recoveries::recovery;
 pub use server_load::{ServerLoad, server_loads};
 pub use shares::{is_within, left_over};

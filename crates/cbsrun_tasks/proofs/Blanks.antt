@@ -1,8 +1,8 @@
 -- What stands after the blanks at the start of a text.
-use Rattle.std.proofs.Common.{◌≡◌, ℕ, suc, ◌+◌, false, List, [], ◌∷◌, drop, refl, arith, ap}
+use Rattle.std.proofs.Common.{◌≡◌, ℕ, suc, ◌+◌, ◌==◌, false, List, [], ◌∷◌, drop, refl, arith, ap}
 use Rattle.std.specs.List.{prefix_len}
 use Rattle.std.proofs.lemmas.Bool.Decides.{nat_tests}
-use Rattle.toml_parser.specs.Lexical.{is_ws, first, skip_ws}
+use Rattle.toml_parser.specs.Lexical.{is_ws, first, skip_ws, skip_blank, skip_from}
 
 -- one more element is dropped
 drop_one_more : (n c : ℕ) (cs : List ℕ) → drop (1 + n) (c ∷ cs) ≡ drop n cs
@@ -21,3 +21,15 @@ pub after_none : (s : List ℕ) → is_ws (first s) ≡ false → skip_ws s ≡ 
 unfolding skip_ws
 after_none [] other = refl
 after_none (c ∷ cs) other = rw other refl
+
+-- a space is skipped, too, with what else stands there
+pub space_blank : (s : List ℕ) → first s ≡ 32 → skip_blank s ≡ skip_blank (drop 1 s)
+unfolding skip_from
+space_blank [] space = absurd (grind (arith, nat_tests))
+space_blank (c ∷ cs) space = rw space refl
+
+-- where neither a blank nor a newline nor a comment stands nothing is skipped
+pub blank_none : (s : List ℕ) → is_ws (first s) ≡ false → (first s == 10) ≡ false → (first s == 13) ≡ false → (first s == 35) ≡ false → skip_blank s ≡ s
+unfolding skip_from
+blank_none [] ws feed return hash = refl
+blank_none (c ∷ cs) ws feed return hash = rw (feed, return, ws, hash) refl

@@ -3,7 +3,7 @@
 ghost use Rattle.std.specs.Prelude.{◌≡◌, ℕ, pos, ◌+◌, ◌^◌, ◌<◌, ◌≤◌, true, codes, length, List, ◌++◌, Some, IfSome};
 ghost use Rattle.std.specs.List.{list_all};
 ghost use Rattle.std.specs.Fmt.{decimal};
-ghost use Rattle.toml_parser.specs.Lexical.{first, is_bare, skip_ws};
+ghost use Rattle.toml_parser.specs.Lexical.{first, is_bare, skip_blank, skip_ws};
 ghost use Rattle.toml.specs.Data.{string, integer, array, Items, no_items};
 ghost use Rattle.toml.specs.Parse as spec;
 ghost use Rattle.cbs_rate.specs.Limits.{most_units};
@@ -37,6 +37,7 @@ fn after<'s>(s: &'s str, word: &str) -> Option<&'s str>
 /// Returns the text after the space at its start, if there is one.
 fn after_space(s: &str) -> &str
     ensures rest { skip_ws result.now ≡ skip_ws s.now }
+    ensures blank { skip_blank result.now ≡ skip_blank s.now }
     ensures within { length result.now ≤ length s.now }
 {
     if first(s) == b' ' { skip(s, 1) } else { s }
@@ -52,6 +53,19 @@ fn after_blanks(s: &str) -> &str
         skip_ws(rest)
     } else {
         rest
+    }
+}
+
+/// Returns the text after white space, newlines and comments, as [`skip_blank`] does, and in less time if there is one
+/// space at most.
+fn after_trivia(s: &str) -> &str
+    ensures rest { result.now ≡ skip_blank s.now }
+    ensures within { length result.now ≤ length s.now }
+{
+    let rest = after_space(s);
+    match first(rest) {
+        b' ' | b'\t' | b'\n' | b'\r' | b'#' => skip_blank(rest, true),
+        _ => rest,
     }
 }
 
@@ -79,7 +93,7 @@ fn first_inline<'s>(s: &'s str, key: &str) -> Option<&'s str>
     if first(s) != b'{' {
         return None;
     }
-    let at = value_of(skip_blank(skip(s, 1), true), key)?;
+    let at = value_of(after_trivia(skip(s, 1)), key)?;
     Some(at)
 }
 
@@ -113,7 +127,7 @@ fn next_inline<'s>(s: &'s str, key: &str) -> Option<&'s str>
     ensures { IfSome result (λ at. FollowsComma s.now key.now at.now) }
 {
     let next = after_element(s, b'}').ok()?;
-    let at = value_of(skip_blank(next, true), key)?;
+    let at = value_of(after_trivia(next), key)?;
     Some(at)
 }
 
@@ -148,7 +162,7 @@ fn inline_end(s: &str) -> Option<&str>
     ensures { IfSome result (λ rest. EndsTable s.now rest.now) }
 {
     let next = after_element(s, b'}').ok()?;
-    let end = skip_blank(next, true);
+    let end = after_trivia(next);
     if first(end) != b'}' {
         return None;
     }
@@ -247,7 +261,7 @@ fn units_in(alloc: Global, s: &str) -> Option<(Vec<u32>, &str)>
     let mut units = Vec::new(alloc);
     let mut rest = s;
     'items: loop {
-        let start = skip_blank(rest, true);
+        let start = after_trivia(rest);
         if first(start) == b']' {
             return Some((units, skip(start, 1)));
         }

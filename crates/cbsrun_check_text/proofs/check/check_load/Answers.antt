@@ -1,6 +1,7 @@
 use Rattle.std.proofs.Common.{refl, arith}
 use Rattle.std.proofs.lemmas.Grind.{common_steps}
 use Rattle.cbsrun_sizing.proofs.LateServers.{bounded}
+use Rattle.cbsrun_sizing.proofs.Recovered.{made_up}
 use Rattle.cbsrun_check_text.proofs.Plans.{split_of}
 use Rattle.cbsrun_check_text.proofs.check.check_load.Goals as goal
 
@@ -12,6 +13,7 @@ returns c = record {
   told = c.in_ok-loads.ensures;
   split = split_of c.args.load.now.plan (rw c.plan.ensures at c.in_ok-budgets.ensures.lawful);
   late = bounded c.args.load.now (rw c.plan.ensures at c.in_ok-budgets.ensures.lawful) c.names.ensures.lawful.moded;
+  made_up = made_up c.args.load.now (rw c.plan.ensures at c.in_ok-budgets.ensures.lawful) c.names.ensures.lawful.moded;
   text_is = rw (
     c.in_ok-append_notes.ensures,
     c.in_ok-append_lateness.ensures,

@@ -1,6 +1,7 @@
 //! Within how many ticks a load makes up what one unit overran.
 
 ghost use Rattle.std.specs.Prelude.{◌≡◌, IfSome};
+ghost use Rattle.cbs_rate.specs.Plan.{IsPlan};
 ghost use Rattle.cbsrun_sizing.specs.Recoveries.{greatest_overrun, free_within, recovery, IsMadeUpWithin};
 
 use cbs_rate::Plan;
@@ -20,7 +21,8 @@ fn greatest_overrun(sources: &[SourceTerms]) -> u64
 
 /// Returns the least time in which so many ticks are free, in ticks. Returns `None` if every tick is reserved.
 fn free_within(plan: &Plan, ticks: u64) -> Option<u128>
-    ensures { result ≡ free_within plan.now.rates ticks }
+    ensures value { result ≡ free_within plan.now.rates ticks }
+    ensures lawful { IsPlan plan.now }
 {
     let reserved = plan.bandwidth();
     let free = reserved.of.saturating_sub(reserved.ticks);
