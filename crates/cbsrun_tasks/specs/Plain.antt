@@ -1,5 +1,5 @@
 -- A table that is read pair by pair, inline or on lines of its own, and the step that it spells.
-use Rattle.std.specs.Prelude.{◌≡◌, ℕ, suc, pos, nat_le, map, ◌+◌, ◌==◌, ◌&&◌, ◌<◌, slice_index, true, false, codes, List, [], drop, length, Some, Ok}
+use Rattle.std.specs.Prelude.{◌≡◌, ℕ, suc, pos, nat_le, map, ◌+◌, ◌==◌, ◌&&◌, ◌||◌, ◌<◌, Bool, slice_index, true, false, codes, List, [], drop, length, Some, Ok}
 use Rattle.toml.specs.Data.{Data, table, string, integer, Items}
 use Rattle.toml.specs.Parse.{read_map, val, key_equals, after_element, members, ends_line, lines}
 use Rattle.toml.specs.Tables.{Nodes, no_nodes, node, value, close, Document}
@@ -10,12 +10,16 @@ use Rattle.std.specs.Char.{is_ascii_digit}
 use Rattle.std.specs.List.{list_all}
 use Rattle.cbs_rate.specs.Limits.{greatest_number}
 use Rattle.cbsrun_toml_tables.specs.Fields.{list_of}
-use Rattle.toml_parser.specs.Lexical.{Read, space, first, is_word, skip_ws, skip_blank, left_bracket, left_brace, right_brace}
+use Rattle.toml_parser.specs.Lexical.{Read, space, line_feed, carriage_return, hash, first, is_ws, is_word, skip_ws, skip_blank, left_bracket, left_brace, right_brace}
 use Rattle.cbs_job.specs.declared.file.FileJob.{FileJob}
 use Rattle.cbs_steps.specs.declared.step.Step.{Step}
 use Rattle.cbsrun_tasks.specs.declared.terms.Terms.{Terms}
 use Rattle.cbsrun_tasks.specs.Entries.{step_entry}
 use Rattle.cbsrun_tasks.specs.TaskFiles.{IsFileStep}
+
+-- white space, a newline or a comment may begin with this byte
+abbrev pub begins_trivia : ℕ → Bool
+begins_trivia c = ((is_ws c || c == line_feed) || c == carriage_return) || c == hash
 
 -- a pair with this key stands at the start of a text, and `at` is the text from its value on
 pub record StartsPair (text key at : List ℕ) : Type 0 where

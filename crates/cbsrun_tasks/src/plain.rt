@@ -7,7 +7,7 @@ ghost use Rattle.toml_parser.specs.Lexical.{first, is_bare, skip_blank, skip_ws}
 ghost use Rattle.toml.specs.Data.{string, integer, array, Items, no_items};
 ghost use Rattle.toml.specs.Parse as spec;
 ghost use Rattle.cbs_rate.specs.Limits.{most_units};
-ghost use Rattle.cbsrun_tasks.specs.Plain.{StartsPair, OpensTable, OpensLines, Opens, FollowsComma, FollowsLine, Follows, EndsTable, EndsLines, Ends, Reads, IsValue, op_pair, EndsNumber, AreUnits, ReadsUnits, SpellsStep};
+ghost use Rattle.cbsrun_tasks.specs.Plain.{StartsPair, OpensTable, OpensLines, Opens, FollowsComma, FollowsLine, Follows, EndsTable, EndsLines, Ends, Reads, IsValue, op_pair, begins_trivia, EndsNumber, AreUnits, ReadsUnits, SpellsStep};
 
 use crate::entries::job_of;
 use crate::terms::Terms;
@@ -56,6 +56,13 @@ fn after_blanks(s: &str) -> &str
     }
 }
 
+/// Returns whether white space, a newline or a comment may begin with a byte.
+fn begins_trivia(byte: u8) -> bool
+    ensures { result ≡ begins_trivia byte }
+{
+    is_ws(byte) || byte == b'\n' || byte == b'\r' || byte == b'#'
+}
+
 /// Returns the text after white space, newlines and comments, as [`skip_blank`] does, and in less time if there is one
 /// space at most.
 fn after_trivia(s: &str) -> &str
@@ -63,9 +70,10 @@ fn after_trivia(s: &str) -> &str
     ensures within { length result.now ≤ length s.now }
 {
     let rest = after_space(s);
-    match first(rest) {
-        b' ' | b'\t' | b'\n' | b'\r' | b'#' => skip_blank(rest, true),
-        _ => rest,
+    if begins_trivia(first(rest)) {
+        skip_blank(rest, true)
+    } else {
+        rest
     }
 }
 

@@ -2,7 +2,8 @@
 
 use cbsrun_loads::read_load;
 use cbsrun_sizing::{
-    Asked, ServerLoad, greatest_budgets, greatest_common_divisor, greatest_delay, server_loads,
+    Asked, ServerLoad, greatest_budgets, greatest_common_divisor, greatest_delay, recovery,
+    server_loads,
 };
 
 /// Control, vision, a throttled lidar, and bursts of logging whose units overrun.
@@ -73,6 +74,8 @@ fn numbers_of_a_robot(rt: HostRuntime) {
     assert!(rt; loads[..] == [control, vision, logging]);
     // nobody else delays logging, which delays both others
     assert!(rt; greatest_delay(&load) == 7);
+    // 8 of 20 ticks are free: 7 of 17.5
+    assert!(rt; recovery(&load) == Some(18));
 }
 
 /// Three servers, each of which overruns.

@@ -16,16 +16,16 @@ returns-then-first-eq93-clause-value c depth n h =
     let l = c.items in
     let (m, ds, room, loop, are) = l.invariant.3 depth n h in
     let closing : (first (skip_blank l.rest.now) == 93) ≡ true = grind (arith, common_steps) in
-    (ds, loop ∙ items_end (val depth) m ds l.rest.now (omega arith) closing ∙ rw (c.skip.ensures.rest, c.skip_blank-start.ensures.rest), are)
+    (ds, loop ∙ items_end (val depth) m ds l.rest.now (omega arith) closing ∙ rw (c.skip.ensures.rest, c.after_trivia-start.ensures.rest), are)
 
 pub items-preserved : goal.items-preserved
 items-preserved c =
     let l = c.items in
-    let start_is = c.skip_blank-start.ensures.rest in
+    let start_is = c.after_trivia-start.ensures.rest in
     let other : (first (skip_blank l.rest.now) == 93) ≡ false = grind (arith, common_steps) in
     let shorter = c.in_ok-number.ensures.shorter in
     let within = c.in-Ok-after_element.ensures.within in
-    let before = c.skip_blank-start.ensures.within in
+    let before = c.after_trivia-start.ensures.within in
     let most : c.in_ok-number.number ≤ greatest_number = grind (arith, common_steps) in
     let few : length c.push.new.self.items ≤ most_units = grind (arith, common_steps) in (
       search rules,
