@@ -1,0 +1,3 @@
+pub mod Powers
+pub mod Added
+pub mod Below
