@@ -1,9 +1,8 @@
 -- One more number in a summary.
-use Rattle.std.proofs.Common.{ℕ, zero, suc, Bool, true, false, cond, ◌≡◌, ◌+◌, ◌-◌, ◌*◌, ◌^◌, ◌≤◌, ◌<◌, List, [], ◌∷◌, length, sum, min, max, slice_index, slice_set, arith, refl, sym, subst, inl, inr, count_by, get_or-set_same, get_or-set_other}
+use Rattle.std.proofs.Common.{ℕ, Bool, true, false, cond, ◌≡◌, ◌+◌, ◌<◌, List, [], ◌∷◌, length, sum, min, slice_index, slice_set, arith, sym, subst, inl, inr, count_by, get_or-set_same, get_or-set_other}
 use Rattle.std.proofs.lemmas.Bool.{cases_eq}
 use Rattle.std.proofs.lemmas.List.Sums.{sum_by-cons}
-use Rattle.cbs_live.specs.Spreads.{most, is_of_power, IsSpreadOf, least_of, greatest_of}
-use Rattle.cbs_live.specs.declared.spread.Spread.{Spread}
+use Rattle.cbs_live.specs.Spreads.{most, is_of_power, least_of}
 use Rattle.cbs_live.proofs.Powers.{other_power}
 
 pub sum_cons : (x : ℕ) (xs : List ℕ) → sum (x ∷ xs) ≡ x + sum xs

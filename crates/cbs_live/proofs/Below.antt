@@ -1,7 +1,7 @@
 -- How many numbers are below a power, by the counts of the powers.
-use Rattle.std.proofs.Common.{ℕ, zero, suc, Bool, true, false, cond, ◌&&◌, ◌≡◌, ◌+◌, ◌-◌, ◌*◌, ◌^◌, ◌≤◌, ◌<◌, List, [], ◌∷◌, length, sum, take, min, max, slice_index, arith, refl, sym, inl, inr, count_by, leb, ltb, add-one, add-zero}
+use Rattle.std.proofs.Common.{ℕ, zero, suc, ◌≡◌, ◌+◌, ◌-◌, ◌*◌, ◌^◌, ◌≤◌, ◌<◌, List, [], ◌∷◌, length, sum, take, min, slice_index, arith, refl, inl, inr, count_by, leb, ltb, add-one}
 use Rattle.std.proofs.lemmas.Bool.{cases_lt, le-leb, lt-leb, lt-ltb, le-ltb, and_from, and_left, and_right}
-use Rattle.std.proofs.lemmas.List.Sums.{sum_by-cons, sum_by_more, count_by-le-length}
+use Rattle.std.proofs.lemmas.List.Sums.{sum_by_more, count_by-le-length}
 use Rattle.std.proofs.lemmas.Nat.{pow_pos}
 use Rattle.std.proofs.Math.Nat.{pow-le-pow_right, mul-le-mul_right}
 use Rattle.cbs_live.specs.Spreads.{most, is_of_power, start_of, greatest_of, IsSpreadOf, IsCounted, AreAtMost}
@@ -37,12 +37,12 @@ below_more k (x ∷ xs) =
     let up : k ≤ suc k = omega arith in
     let grows : 2 ^ k ≤ 2 ^ suc k = pow-le-pow_right two up in
     elim (cases_lt x (2 ^ k)) [
-  | inl low ↦ let lower : x < 2 ^ suc k = omega arith in omega (arith, below_more k xs, below_in (2 ^ suc k) x xs lower, below_in (2 ^ k) x xs low, power_before (suc k) x xs low)
-  | inr high ↦ elim (cases_lt x (2 ^ suc k)) [
-    | inl here ↦ omega (arith, below_more k xs, below_in (2 ^ suc k) x xs here, below_out (2 ^ k) x xs high, power_in (suc k) x xs high here)
-    | inr higher ↦ omega (arith, below_more k xs, below_out (2 ^ suc k) x xs higher, below_out (2 ^ k) x xs high, power_after (suc k) x xs higher)
-  ]
-]
+      | inl low ↦ let lower : x < 2 ^ suc k = omega arith in omega (arith, below_more k xs, below_in (2 ^ suc k) x xs lower, below_in (2 ^ k) x xs low, power_before (suc k) x xs low)
+      | inr high ↦ elim (cases_lt x (2 ^ suc k)) [
+        | inl here ↦ omega (arith, below_more k xs, below_in (2 ^ suc k) x xs here, below_out (2 ^ k) x xs high, power_in (suc k) x xs high here)
+        | inr higher ↦ omega (arith, below_more k xs, below_out (2 ^ suc k) x xs higher, below_out (2 ^ k) x xs high, power_after (suc k) x xs higher)
+      ]
+    ]
 
 below_first : (xs : List ℕ) → count_by (λ x. ltb x (2 ^ 0)) xs ≡ count_by (is_of_power 0) xs
 below_first [] = refl
@@ -72,13 +72,13 @@ within_least [] greatest bound all = omega arith
 within_least (x ∷ xs) greatest bound all =
     let rest : greatest_of xs ≤ greatest = omega arith in
     elim (cases_lt x bound) [
-  | inl low ↦ let lower : x ≤ min greatest (bound - 1) = omega arith in
-      omega (arith, within_least xs greatest bound rest, below_in bound x xs low, within_in (min greatest (bound - 1)) x xs lower)
-  | inr high ↦ elim (cases_lt (min greatest (bound - 1)) x) [
-    | inl out ↦ omega (arith, within_least xs greatest bound rest, below_out bound x xs high, within_out (min greatest (bound - 1)) x xs out)
-    | inr into ↦ omega (arith, within_least xs greatest bound rest, below_out bound x xs high, within_in (min greatest (bound - 1)) x xs into)
-  ]
-]
+      | inl low ↦ let lower : x ≤ min greatest (bound - 1) = omega arith in
+          omega (arith, within_least xs greatest bound rest, below_in bound x xs low, within_in (min greatest (bound - 1)) x xs lower)
+      | inr high ↦ elim (cases_lt (min greatest (bound - 1)) x) [
+        | inl out ↦ omega (arith, within_least xs greatest bound rest, below_out bound x xs high, within_out (min greatest (bound - 1)) x xs out)
+        | inr into ↦ omega (arith, within_least xs greatest bound rest, below_out bound x xs high, within_in (min greatest (bound - 1)) x xs into)
+      ]
+    ]
 
 -- none is more than the greatest
 pub within_all : (xs : List ℕ) (greatest : ℕ) → greatest_of xs ≤ greatest → count_by (λ x. leb x greatest) xs ≡ length xs

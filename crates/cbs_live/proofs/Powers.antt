@@ -1,5 +1,5 @@
 -- The power of a number: each number has one, and only one.
-use Rattle.std.proofs.Common.{ℕ, zero, suc, Bool, true, false, ◌&&◌, ◌≡◌, ◌≢◌, ◌+◌, ◌-◌, ◌^◌, ◌≤◌, ◌<◌, arith, refl, sym, subst, inl, inr, leb, ltb}
+use Rattle.std.proofs.Common.{ℕ, zero, suc, true, false, ◌≡◌, ◌≢◌, ◌+◌, ◌-◌, ◌^◌, ◌≤◌, ◌<◌, arith, refl, subst, inl, inr, leb, ltb}
 use Rattle.std.proofs.lemmas.Bool.{cases_lt, cases_Bool, cases_order, leb-true, ltb-true, le-leb, lt-ltb, and_from, and_parts}
 use Rattle.std.proofs.lemmas.Nat.{leading_top}
 use Rattle.std.specs.Int.Count.{count_leading_zeros, leading_of_zero}

@@ -1,6 +1,6 @@
 //! A summary of numbers.
 
-ghost use Rattle.std.specs.Prelude.{◌≡◌, ◌≤◌, ◌<◌, ◌+◌, ◌-◌, ◌*◌, ◌^◌, ℕ, List, [], ◌∷◌, length, sum, min, IsTrue};
+ghost use Rattle.std.specs.Prelude.{◌≡◌, ◌≤◌, ◌<◌, ◌+◌, ◌-◌, ◌*◌, ◌/◌, ◌^◌, ℕ, List, [], ◌∷◌, length, sum, min, IsTrue};
 ghost use Rattle.cbs_live.specs.Spreads.{most, is_of_power, IsSpreadOf, IsCounted, mean_of, AreAtMost};
 
 /// A summary of the numbers that it was given, in a memory that stays the same. No number of it passes `u64::MAX`: it
@@ -55,8 +55,9 @@ impl Spread {
 
     /// Returns the mean, rounded down, and 0 if there is no number.
     pub fn mean(&self) -> u64
-        ensures { (numbers : List ℕ) → IsSpreadOf self.now numbers → IsCounted numbers
+        ensures mean { (numbers : List ℕ) → IsSpreadOf self.now numbers → IsCounted numbers
             → result ≡ mean_of numbers }
+        ensures value { result ≡ self.now.total / self.now.count }
     {
         self.total.checked_div(self.count).unwrap_or(0)
     }

@@ -1,4 +1,4 @@
-use Rattle.std.proofs.Common.{rules, arith, ℕ, ◌≤◌, ◌<◌, ◌*◌, ◌+◌, ◌-◌, ◌^◌, length, min, sum, take}
+use Rattle.std.proofs.Common.{rules, arith, ◌≤◌, ◌<◌, ◌*◌, ◌+◌, ◌-◌, ◌^◌, length, min, sum, take}
 use Rattle.cbs_live.proofs.Below.{sum_more, enough, too_few, all, is_before}
 use Rattle.cbs_live.proofs.spread.Spread.at_most.Goals as goal
 
@@ -6,7 +6,7 @@ pub returns-then-wanted-found-clause-enough : goal.returns-then-wanted-found-cla
 returns-then-wanted-found-clause-enough c = λ numbers is counted.
     let at : c.loop-power.power < length c.args.self.now.powers = search rules in
     let found : c.from.result * c.from-2.result ≤ 1000 * sum (take (c.loop-power.power + 1) c.args.self.now.powers) =
-      omega (arith, sum_more c.args.self.now.powers c.loop-power.power at) in
+    omega (arith, sum_more c.args.self.now.powers c.loop-power.power at) in
     rw (c.min-then-wanted-found.ensures, c.end_of.ensures)
     (enough c.args.self.now numbers (min c.args.per_mille 1000) c.loop-power.power (c.from.result * c.from-2.result) is counted (search rules) (omega arith) (cc) found)
 

@@ -1,4 +1,4 @@
-use Rattle.std.proofs.Common.{ℕ, ◌≡◌, ◌≤◌, ◌<◌, ◌+◌, ◌*◌, ◌^◌, sum, take}
+use Rattle.std.proofs.Common.{ℕ, ◌≡◌, ◌≤◌, ◌<◌, ◌+◌, ◌*◌, sum, take}
 use Rattle.cbs_live.specs.Spreads.{most}
 use Rattle.cbs_live.proofs.spread.Spread.at_most.Given as goal
 
