@@ -1,12 +1,14 @@
 -- The figures of one server, and what they are the figures of.
-use Rattle.std.specs.Prelude.{ℕ, ◌≡◌, ◌+◌, ◌-◌, ◌%◌, ◌≤◌, ◌<◌, ◌&&◌, min, List, [], ◌∷◌, ◌++◌, length, sum, replicate, slice_index, nat_lt, nat_le, Option, Some, None, if◌then◌else◌}
+use Rattle.std.specs.Prelude.{ℕ, ◌≡◌, ◌+◌, ◌-◌, ◌*◌, ◌/◌, ◌%◌, ◌≤◌, ◌<◌, ◌&&◌, min, List, [], ◌∷◌, ◌++◌, length, sum, replicate, slice_index, nat_lt, nat_le, Option, Some, None, if◌then◌else◌}
 use Rattle.cbs_live.specs.declared.figures.Figures.{Figures}
 use Rattle.cbs_live.specs.declared.figures.Ended.{Ended}
 use Rattle.cbs_live.specs.Spreads.{most, IsSpreadOf}
 
--- What a server did: when each of its jobs was accepted, in the order of their numbers. The responses of jobs that are
--- done, and the latenesses and the charges of units that have ended, each the newest first
+-- What a server did in so many ticks of the house's clock: when each of its jobs was accepted, in
+-- the order of their numbers. The responses of jobs that are done, and the latenesses and the
+-- charges of units that have ended, each the newest first
 pub record Past : Type 0 where
+  pub ticks : ℕ
   pub accepted : List ℕ
   pub responses : List ℕ
   pub latenesses : List ℕ
@@ -14,7 +16,7 @@ pub record Past : Type 0 where
 
 -- nothing was done yet
 abbrev pub no_past : Past
-no_past = record { accepted = []; responses = []; latenesses = []; charges = [] }
+no_past = record { ticks = 0; accepted = []; responses = []; latenesses = []; charges = [] }
 
 -- so many jobs are accepted in all: those that were not before, at this time
 abbrev pub past_with_jobs : ℕ → ℕ → Past → Past
@@ -29,7 +31,8 @@ abbrev pub responses_with : ℕ → Option ℕ → List ℕ → List ℕ
 responses_with now (Some time) responses = (now - time) ∷ responses
 responses_with now None responses = responses
 
--- when the job was accepted that the unit finished, if there is one, and it is one of the last n that were accepted
+-- when the job was accepted that the unit finished, if there is one, and it is one of the last n
+-- that were accepted
 abbrev pub time_of_done : ℕ → Past → Option ℕ → Option ℕ
 time_of_done n p (Some q) = time_of n p q
 time_of_done n p None = None
@@ -42,18 +45,24 @@ past_with_unit n unit p = record p {
   charges = unit.charged ∷ p.charges;
 }
 
--- a ring of n places has the time of each of the last n jobs that were accepted: that of job q at place q % n
+-- a ring of n places has the time of each of the last n jobs that were accepted: that of job q at
+-- place q % n
 abbrev pub Remembers : List ℕ → List ℕ → Type 0
 Remembers came times =
     (q : ℕ) → q < length times → length times ≤ q + length came
     → slice_index came (q % length came) ≡ slice_index times q
 
--- These figures, with their ring of times, are those of a server that did this. Each number stops at the greatest of 64
--- bits
+-- These figures, with their ring of times, are those of a server that did this. Each number stops
+-- at the greatest of 64 bits
 pub record AreFiguresOf (f : Figures) (came : List ℕ) (p : Past) : Type 0 where
+  pub ticks : f.ticks ≡ p.ticks
   pub accepted : f.accepted ≡ length p.accepted
   pub units : f.units ≡ min (length p.latenesses) most
   pub charged : f.charged ≡ min (sum p.charges) most
   pub responses : IsSpreadOf f.responses p.responses
   pub lateness : IsSpreadOf f.lateness p.latenesses
   pub remembered : Remembers came p.accepted
+
+-- of a thousand ticks of the house's clock, those of the server's units and those charged for them
+abbrev pub share_of : Figures → ℕ
+share_of f = min ((f.units + f.charged) * 1000 / f.ticks) most

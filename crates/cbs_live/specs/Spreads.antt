@@ -30,8 +30,8 @@ start_of (suc k) = 2 ^ k
 abbrev pub is_of_power : ℕ → ℕ → Bool
 is_of_power k x = nat_le (start_of k) x && nat_lt x (2 ^ k)
 
--- A spread is the summary of these numbers, which may have come in any order. Each number of it stops at the greatest
--- of 64 bits
+-- A spread is the summary of these numbers, which may have come in any order. Each number of it
+-- stops at the greatest of 64 bits
 pub record IsSpreadOf (s : Spread) (xs : List ℕ) : Type 0 where
   pub count : s.count ≡ min (length xs) most
   pub total : s.total ≡ min (sum xs) most
@@ -39,7 +39,8 @@ pub record IsSpreadOf (s : Spread) (xs : List ℕ) : Type 0 where
   pub greatest : s.greatest ≡ greatest_of xs
   pub powers : (k : ℕ) → k < 65 → slice_index s.powers k ≡ min (count_by (is_of_power k) xs) most
 
--- none of their counts has stopped: neither how many they are nor their sum passes the greatest number of 64 bits
+-- none of their counts has stopped: neither how many they are nor their sum passes the greatest
+-- number of 64 bits
 pub record IsCounted (xs : List ℕ) : Type 0 where
   pub few : length xs ≤ most
   pub small : sum xs ≤ most

@@ -1,30 +1,34 @@
 //! The figures of one server.
 
-ghost use Rattle.std.specs.Prelude.{◌≡◌, ◌<◌, ◌≤◌, ◌+◌, ◌*◌, ◌/◌, ℕ, List, length, min};
-ghost use Rattle.cbs_live.specs.Figures.{Past, no_past, past_with_jobs, past_with_unit, time_of, time_of_done, responses_with, AreFiguresOf, Remembers};
-ghost use Rattle.cbs_live.specs.Spreads.{most, IsSpreadOf};
+ghost use Rattle.std.specs.Prelude.{◌≡◌, ℕ, List, length};
+ghost use Rattle.cbs_live.specs.Figures.{Past, no_past, past_with_jobs, past_with_unit, time_of, time_of_done, responses_with, share_of, AreFiguresOf};
+ghost use Rattle.cbs_live.specs.Spreads.{IsSpreadOf};
 
 use crate::spread::Spread;
 
-/// The figures of one server, in a memory that stays the same. No number of them passes `u64::MAX`: it stops there.
+/// The figures of one server, in a memory that stays the same. No number of them passes `u64::MAX`:
+/// it stops there.
 ///
-/// Beside them there is a ring of times, in which it is kept when each of the last jobs was accepted. It has as many
-/// places as jobs are unfinished at most: the backlog of the house.
+/// Beside them there is a ring of times, in which it is kept when each of the last jobs was
+/// accepted. It has as many places as jobs are unfinished at most: the backlog of the house.
 ///
 /// All bytes 0 are the figures of a server that did nothing.
 #[repr(C)]
 #[derive(Clone, Copy, Debug, PartialEq, Eq)]
 pub struct Figures {
+    /// By how many ticks the house's clock went on. Whoever keeps the figures sets it.
+    pub ticks: u64,
     /// How many jobs were accepted.
     pub accepted: u64,
     /// How many units have ended.
     pub units: u64,
     /// How many ticks were charged for them.
     pub charged: u64,
-    /// The responses of the jobs that are done, in nanoseconds: from when a job was accepted to the end of its last unit.
+    /// The responses of the jobs that are done, in nanoseconds: from when a job was accepted to the
+    /// end of its last unit.
     pub responses: Spread,
-    /// The latenesses of the units that have ended, in ticks: by how much a unit ended after the deadline by which it was
-    /// chosen, and 0 if it did not.
+    /// The latenesses of the units that have ended, in ticks: by how much a unit ended after the
+    /// deadline by which it was chosen, and 0 if it did not.
     pub lateness: Spread,
 }
 
@@ -47,6 +51,7 @@ impl Figures {
         ensures { (came : List ℕ) → AreFiguresOf result came no_past }
     {
         Figures {
+            ticks: 0,
             accepted: 0,
             units: 0,
             charged: 0,
@@ -55,7 +60,8 @@ impl Figures {
         }
     }
 
-    /// Notes that so many jobs are accepted in all. Those that were not noted before were accepted at this time.
+    /// Notes that so many jobs are accepted in all. Those that were not noted before were accepted
+    /// at this time.
     pub fn note_accepted(&mut self, came: &mut [u64], accepted: u64, time: u64)
         ensures { (past : Past) → AreFiguresOf self.old came.old past
             → AreFiguresOf self.new came.new (past_with_jobs accepted time past) }
@@ -68,8 +74,8 @@ impl Figures {
         self.accepted = self.accepted.max(accepted);
     }
 
-    /// Notes a unit that has ended. If it was the last of a job, and the job is one of the last that were accepted, as many
-    /// as the ring has places, the response of the job is added.
+    /// Notes a unit that has ended. If it was the last of a job, and the job is one of the last
+    /// that were accepted, as many as the ring has places, the response of the job is added.
     pub fn note_ended(&mut self, came: &[u64], unit: Ended)
         ensures { (past : Past) → AreFiguresOf self.old came.now past
             → AreFiguresOf self.new came.now (past_with_unit (length came.now) unit past) }
@@ -81,7 +87,8 @@ impl Figures {
         self.charged = self.charged.saturating_add(unit.charged);
     }
 
-    /// Returns when a job was accepted, or `None` if it is not one of the last that were, as many as the ring has places.
+    /// Returns when a job was accepted, or `None` if it is not one of the last that were, as many
+    /// as the ring has places.
     pub fn accepted_at(&self, came: &[u64], job: u64) -> Option<u64>
         ensures { (past : Past) → AreFiguresOf self.now came.now past
             → result ≡ time_of (length came.now) past job }
@@ -105,13 +112,15 @@ impl Figures {
         }
     }
 
-    /// Returns the share of the server if the house's clock went on by so many ticks: how many of a thousand of them were
-    /// of its units or charged for these, rounded down. It is 0 if there is no tick.
-    pub fn share(&self, ticks: u64) -> u64
-        ensures { result ≡ min ((self.now.units + self.now.charged) * 1000 / ticks) most }
+    /// Returns the share of the server: how many of a thousand ticks of the house's clock were
+    /// those of its units, or charged for these. It is rounded down, and 0 if there is no tick.
+    pub fn share(&self) -> u64
+        ensures { result ≡ share_of self.now }
     {
         let taken = u128::from(self.units) + u128::from(self.charged);
-        let share = (taken * 1000).checked_div(u128::from(ticks)).unwrap_or(0);
+        let share = (taken * 1000)
+            .checked_div(u128::from(self.ticks))
+            .unwrap_or(0);
         share.min(u128::from(u64::MAX)) as u64
     }
 }

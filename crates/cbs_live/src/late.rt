@@ -7,7 +7,8 @@ ghost use Rattle.cbs_rules.specs.declared.mode.Mode.{Mode};
 ghost use Rattle.cbs_live.specs.Late.{IsToldAfter};
 ghost use Rattle.cbs_live.specs.Spreads.{most};
 
-/// What a house shows of a server right after it told one of the server's units, before anything else.
+/// What a house shows of a server right after it told one of the server's units, before anything
+/// else.
 #[derive(Clone, Copy, Debug, PartialEq, Eq)]
 pub struct Told {
     /// The budget of the server's reservation, in ticks.
@@ -21,8 +22,8 @@ pub struct Told {
 }
 
 impl Told {
-    /// Returns the deadline by which the unit was chosen. A server whose budget is whole was given it after the unit, and
-    /// its deadline was postponed by one period then.
+    /// Returns the deadline by which the unit was chosen. A server whose budget is whole was given
+    /// it after the unit, and its deadline was postponed by one period then.
     pub fn chosen_by(self) -> u128
         ensures { (mode : Mode) → (rate : Rate) → (now : ℕ) → (before : State)
             → IsToldAfter self mode rate now before → result ≡ before.deadline }
@@ -34,8 +35,9 @@ impl Told {
         }
     }
 
-    /// Returns by how many ticks the unit ended after the deadline by which it was chosen, and 0 if it did not. The
-    /// house's clock stood at `clock` after it told the unit, and the unit was charged so many ticks.
+    /// Returns by how many ticks the unit ended after the deadline by which it was chosen, and 0 if
+    /// it did not. The house's clock stood at `clock` after it told the unit, and the unit was
+    /// charged so many ticks.
     pub fn lateness(self, clock: u64, charged: u64) -> u64
         ensures { (mode : Mode) → (rate : Rate) → (now : ℕ) → (before : State)
             → IsToldAfter self mode rate now before

@@ -1,4 +1,5 @@
-//! Live figures of a house: of the jobs and the units of each server as the house runs, in a memory that stays the same.
+//! Live figures of a house: of the jobs and the units of each server as the house runs, in a memory
+//! that stays the same.
 //!
 //! Times are in nanoseconds, by the host's clock. Ticks are those of the house's clock.
 #![tactic(auto)]

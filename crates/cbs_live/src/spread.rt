@@ -3,8 +3,8 @@
 ghost use Rattle.std.specs.Prelude.{◌≡◌, ◌≤◌, ◌<◌, ◌+◌, ◌-◌, ◌*◌, ◌/◌, ◌^◌, ℕ, List, [], ◌∷◌, length, sum, min, IsTrue};
 ghost use Rattle.cbs_live.specs.Spreads.{most, is_of_power, IsSpreadOf, IsCounted, mean_of, AreAtMost};
 
-/// A summary of the numbers that it was given, in a memory that stays the same. No number of it passes `u64::MAX`: it
-/// stops there.
+/// A summary of the numbers that it was given, in a memory that stays the same. No number of it
+/// passes `u64::MAX`: it stops there.
 ///
 /// All bytes 0 are the summary of no numbers.
 #[repr(C)]
@@ -18,8 +18,8 @@ pub struct Spread {
     pub least: u64,
     /// The greatest of them, and 0 if there is none.
     pub greatest: u64,
-    /// How many of them are of each power. A 0 is of power 0. Another number is of power k if it is below 2^k and not
-    /// below 2^(k - 1).
+    /// How many of them are of each power. A 0 is of power 0. Another number is of power k if it is
+    /// below 2^k and not below 2^(k - 1).
     pub powers: [u64; 65],
 }
 
@@ -62,8 +62,9 @@ impl Spread {
         self.total.checked_div(self.count).unwrap_or(0)
     }
 
-    /// Returns a number such that at least so many of a thousand numbers are at most it: the least such one of 0, 1, 3,
-    /// 7, 15 .., or the greatest number, if that is less. More than 1000 of a thousand count as 1000.
+    /// Returns a number such that at least so many of a thousand numbers are at most it: the least
+    /// such one of 0, 1, 3, 7, 15 .., or the greatest number, if that is less. More than 1000 of a
+    /// thousand count as 1000.
     pub fn at_most(&self, per_mille: u64) -> u64
         ensures enough { (numbers : List ℕ) → IsSpreadOf self.now numbers → IsCounted numbers
             → AreAtMost (min per_mille 1000) result numbers }

@@ -24,6 +24,7 @@ loop-job-preserved c =
 
 pub returns : goal.returns
 returns c = λ past are. record {
+  ticks = are.ticks;
   accepted = omega (arith, length_more past.accepted c.args.accepted c.args.time);
   units = are.units;
   charged = are.charged;

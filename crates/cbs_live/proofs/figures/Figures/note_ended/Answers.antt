@@ -4,6 +4,7 @@ use Rattle.cbs_live.proofs.figures.Figures.note_ended.Goals as goal
 
 pub returns : goal.returns
 returns c = λ past are. record {
+  ticks = are.ticks;
   accepted = are.accepted;
   units = omega arith;
   charged = total_more past.charges c.args.unit.charged c.args.self.now.charged _ are.charged c.saturating_add-self-2.ensures;
