@@ -44,7 +44,7 @@ impl Told {
             → result ≡ min (clock + charged - before.deadline) most }
     {
         let end = u128::from(clock) + u128::from(charged);
-        end.saturating_sub(self.chosen_by())
-            .min(u128::from(u64::MAX)) as u64
+        let late = end.saturating_sub(self.chosen_by());
+        late.min(u128::from(u64::MAX)) as u64
     }
 }
