@@ -224,6 +224,18 @@ struct cbs_live {
     uint64_t charged;      /* what was charged in all, as seen last */
 };
 
+/* Makes the lock of figures. A reader that the serving thread waits for inherits its priority. */
+static inline int cbs_live_lock(pthread_mutex_t *lock) {
+    pthread_mutexattr_t inherits;
+    int error = pthread_mutexattr_init(&inherits);
+    if (error == 0) {
+        pthread_mutexattr_setprotocol(&inherits, PTHREAD_PRIO_INHERIT);
+        error = pthread_mutex_init(lock, &inherits);
+        pthread_mutexattr_destroy(&inherits);
+    }
+    return error;
+}
+
 /* Makes the figures of a house with these n servers and this backlog. names[i] is the name of
  * server i. The names stay the program's, and stay there. Where there is none (NULL, also for all
  * of them) the number of the server stands for it. Returns 0, ENOMEM, or the error number of the
@@ -240,7 +252,7 @@ static inline int cbs_live_open(struct cbs_live *live, const struct cbs_server *
     int error = ENOMEM;
     if (live->rates != NULL && live->figures != NULL && live->came != NULL) {
         memcpy(live->rates, servers, n * sizeof *servers);
-        error = pthread_mutex_init(&live->lock, NULL);
+        error = cbs_live_lock(&live->lock);
     }
     if (error != 0) {
         free(live->rates);
@@ -275,7 +287,7 @@ static inline uint32_t cbs_live_read(struct cbs_live *live, size_t server,
 /* Writes the head of the table, and the row of a server: at most n bytes, with the zero byte, as
  * snprintf does. They have no end of line. */
 static inline int cbs_live_head(char *out, size_t n) {
-    return snprintf(out, n, "%-16s %10s %7s %12s %12s %12s %12s %10s %10s", "server", "jobs done",
+    return snprintf(out, n, "%-14s %9s %7s %10s %10s %10s %11s %10s %10s", "server", "jobs done",
                     "share", "least ms", "mean ms", "99 % ms", "greatest ms", "late units",
                     "most ticks");
 }
@@ -288,8 +300,8 @@ static inline int cbs_live_row(struct cbs_live *live, size_t server, char *out, 
     snprintf(number, sizeof number, "%lu", CBS_CAST(unsigned long, server));
     uint64_t share = cbs_figures_share(&of);
     return snprintf(out, n,
-                    "%-16s %10" PRIu64 " %4" PRIu64 ".%" PRIu64
-                    " %% %11.3f %12.3f %12.3f %12.3f %10" PRIu64 " %10" PRIu64,
+                    "%-14s %9" PRIu64 " %4" PRIu64 ".%" PRIu64
+                    " %% %9.3f %10.3f %10.3f %11.3f %10" PRIu64 " %10" PRIu64,
                     name == NULL ? number : name, of.responses.count, share / 10, share % 10,
                     CBS_CAST(double, of.responses.least) / 1e6,
                     CBS_CAST(double, cbs_spread_mean(&of.responses)) / 1e6,

@@ -264,9 +264,9 @@ static void prints(struct cbs_live *of, const char *wanted) {
 
 static const struct cbs_server two[2] = {{2, 5, CBS_SOFT}, {1, 10, CBS_THROTTLED}};
 
-#define HEAD                                                                                     \
-    "server            jobs done   share     least ms      mean ms      99 % ms  greatest ms" \
-    " late units most ticks\n"
+#define HEAD \
+    "server         jobs done   share   least ms    mean ms    99 %" \
+    " ms greatest ms late units most ticks\n"
 
 /* Three units of a millisecond each, and one of two and a half, from 3 to 5.5 ms: it takes three
  * ticks. */
@@ -281,10 +281,10 @@ static void a_house_with_names(void) {
     set_up(&setup, two, 2, 8, 8);
     CHECK(cbs_bell_open(&bell) == 0 && cbs_live_open(&live, two, 2, 8, names) == 0);
     prints(&live, HEAD
-           "control                   0    0.0 %       0.000        0.000        0.000        0.000"
-           "          0          0\n"
-           "1                         0    0.0 %       0.000        0.000        0.000        0.000"
-           "          0          0\n");
+           "control                0    0.0 %     0.000      0.000      0."
+           "000       0.000          0          0\n"
+           "1                      0    0.0 %     0.000      0.000      0."
+           "000       0.000          0          0\n");
     send_job(&setup.clients[0], 7, 3, 0);
     send_job(&setup.clients[1], 8, 1, 0);
     cbs_free(&setup.clients[0]);
@@ -293,10 +293,10 @@ static void a_house_with_names(void) {
     realtime.live = &live;
     CHECK(cbs_realtime_run(&realtime, &setup.house) == CBS_OK && realtime.over);
     prints(&live, HEAD
-           "control                   1   50.0 %       3.000        3.000        3.000        3.000"
-           "          0          0\n"
-           "1                         1   50.0 %       5.500        5.500        5.500        5.500"
-           "          0          0\n");
+           "control                1   50.0 %     3.000      3.000      3."
+           "000       3.000          0          0\n"
+           "1                      1   50.0 %     5.500      5.500      5."
+           "500       5.500          0          0\n");
     CHECK(cbs_live_read(&live, 2, &of) == CBS_HOUSE_NO_SUCH_SERVER && untouched(&of, sizeof of));
     cbs_live_close(&live);
     cbs_bell_close(&bell);
@@ -344,7 +344,7 @@ static void a_reader_beside_the_house(void) {
     struct cbs_bell bell;
     pthread_t reader;
     memset(&world, 0, sizeof world);
-    world.lengths[0] = MS / 2;
+    world.lengths[0] = MS;
     set_up(&setup, two, 1, 8, 8);
     CHECK(cbs_bell_open(&bell) == 0 && cbs_live_open(&live, two, 1, 8, NULL) == 0);
     struct cbs_realtime realtime = cbs_realtime_of(MS, &bell, work, NULL);
@@ -361,7 +361,7 @@ static void a_reader_beside_the_house(void) {
     __atomic_store_n(&reads_on, false, __ATOMIC_SEQ_CST);
     CHECK(pthread_join(reader, NULL) == 0 && times > 0);
     struct cbs_figures of = figures();
-    is_spread(&of.responses, 20000, 20000 * (uint64_t)(MS / 2), MS / 2, MS / 2);
+    is_spread(&of.responses, 20000, UINT64_C(20000) * MS, MS, MS);
     cbs_live_close(&live);
     cbs_bell_close(&bell);
     tear_down(&setup);

@@ -181,7 +181,7 @@ impl fmt::Display for Live {
         let ms = |nanos: u64| nanos as f64 / 1e6;
         write!(
             f,
-            "{:16} {:>10} {:>7} {:>12} {:>12} {:>12} {:>12} {:>10} {:>10}",
+            "{:14} {:>9} {:>7} {:>10} {:>10} {:>10} {:>11} {:>10} {:>10}",
             "server",
             "jobs done",
             "share",
@@ -197,7 +197,7 @@ impl fmt::Display for Live {
             let (responses, share) = (of.responses, of.share());
             write!(
                 f,
-                "\n{name:16} {:>10} {:>4}.{} % {:>11.3} {:>12.3} {:>12.3} {:>12.3} {:>10} {:>10}",
+                "\n{name:14} {:>9} {:>4}.{} % {:>9.3} {:>10.3} {:>10.3} {:>11.3} {:>10} {:>10}",
                 responses.count,
                 share / 10,
                 share % 10,
