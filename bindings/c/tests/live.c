@@ -153,8 +153,8 @@ static void throttled_servers(void) {
     }
 }
 
-/* Two jobs at most are unfinished. Job 0 is accepted at 0, 1 at 400, and 2 at 1000. They end at 400,
- * 2600 and 3100. The unit that ends at 2600 takes 1.6 ticks. */
+/* Two jobs at most are unfinished. Job 0 is accepted at 0, 1 at 400, and 2 at 1000. They end at
+ * 400, 2600 and 3100. The unit that ends at 2600 takes 1.6 ticks. */
 static void three_jobs(void) {
     static const struct cbs_server server[1] = {{1, 1, CBS_SOFT}};
     struct cbs_figures of;

@@ -100,14 +100,14 @@ pub struct Figures {
     /// Of the jobs that are done, in nanoseconds: from the question that took the job from its ring
     /// to the end of its last unit. What it waited in its ring before is not in it.
     pub responses: Spread,
-    /// Of the units that have ended, in ticks: by how much the house's clock, after the unit and its
-    /// charge, was past the deadline by which the unit was chosen. 0 if it was not.
+    /// Of the units that have ended, in ticks: by how much the house's clock, after the unit and
+    /// its charge, was past the deadline by which the unit was chosen. 0 if it was not.
     pub lateness: Spread,
 }
 
 impl Figures {
-    /// Returns the share of the server: how many of a thousand ticks of the house's clock were those
-    /// of its units or charged for these. It is rounded down, and 0 if there is no tick.
+    /// Returns the share of the server: how many of a thousand ticks of the house's clock were
+    /// those of its units or charged for these. It is rounded down, and 0 if there is no tick.
     #[must_use]
     pub fn share(&self) -> u64 {
         ffi::figures_share(self)
@@ -315,7 +315,7 @@ impl Keeper {
     fn told(&mut self, kept: &mut Kept, house: &Handle, next: &ffi::Next) {
         let Ok(clock) = ffi::now(house) else { return };
         let unit = Some(next.unit).filter(|_| next.kind == kind::NEXT_UNIT);
-        let before = clock - u64::from(unit.is_some()); // the unit that is being done is not counted
+        let before = clock - u64::from(unit.is_some()); // without the unit that is being done
         kept.ticks = before - *self.first.get_or_insert(before);
         self.doing = unit.and_then(|unit| {
             let view = ffi::view(house, unit.server).ok()?;

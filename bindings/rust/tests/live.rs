@@ -46,8 +46,8 @@ fn numbers_are_summarized() {
     assert_eq!(spread.powers[64], 1);
 }
 
-// 2 ticks in 5. The second unit uses the budget up, so the server shows the deadline 10 after it. But
-// it was chosen by 5. It takes 8.5 ticks, so it ends at tick 10.
+// 2 ticks in 5. The second unit uses the budget up, so the server shows the deadline 10 after it.
+// But it was chosen by 5. It takes 8.5 ticks, so it ends at tick 10.
 #[test]
 fn a_unit_is_late_by_the_deadline_that_it_was_chosen_by() {
     let (mut house, mut clients) = open(&[(2, 5, Mode::Soft)]);
