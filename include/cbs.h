@@ -174,6 +174,33 @@ struct cbs_counts {
     uint64_t most_behind; /* the most that this was */
 };
 
+/* A summary of numbers, in a memory that stays the same. No number passes UINT64_MAX: it stops
+ * there. All bytes 0 are the summary of no numbers. */
+struct cbs_spread {
+    uint64_t count;    /* how many numbers there are */
+    uint64_t total;    /* their sum */
+    uint64_t least;    /* the least of them, 0 if there is none */
+    uint64_t greatest; /* the greatest of them, 0 if there is none */
+    /* How many of them are of each power. A 0 is of power 0. Another number is of power k if it is
+     * below 2^k and not below 2^(k - 1). */
+    uint64_t powers[65];
+};
+
+/* The figures of one server. No number passes UINT64_MAX: it stops there. All bytes 0 are the
+ * figures of a server that did nothing. */
+struct cbs_figures {
+    uint64_t ticks;    /* by how many ticks the house's clock went on: who keeps figures sets it */
+    uint64_t accepted; /* how many jobs were accepted */
+    uint64_t units;    /* how many units have ended */
+    uint64_t charged;  /* how many ticks were charged for them */
+    /* Of the jobs that are done, in nanoseconds: from the question (cbs_next) that took the job
+     * from its ring to the end of its last unit. What it waited in its ring before is not in it. */
+    struct cbs_spread responses;
+    /* Of the units that have ended, in ticks: by how much the house's clock, after the unit and its
+     * charge, was past the deadline by which the unit was chosen. 0 if it was not. */
+    struct cbs_spread lateness;
+};
+
 /* What a poll did. */
 enum {
     CBS_POLL_NOTHING = 0,  /* no message was there, or the server is closed */
@@ -374,6 +401,45 @@ void cbs_counts(const struct cbs_pacer *pacer, struct cbs_counts *counts);
 
 /* Returns sizeof(struct cbs_pacer), as the library has it. */
 size_t cbs_pacer_size(void);
+
+/* ---- Figures of servers: plain data, by one thread at a time ----
+ *
+ * struct cbs_live of cbs_realtime.h keeps those of each server of a house, and is read from any
+ * thread. A program with a loop of its own may make these calls itself. */
+
+/* Adds one more number. */
+void cbs_spread_add(struct cbs_spread *spread, uint64_t number);
+
+/* Returns the mean, rounded down, and 0 if there is no number. */
+uint64_t cbs_spread_mean(const struct cbs_spread *spread);
+
+/* Returns a number such that at least so many of a thousand numbers are at most it: 990 asks for
+ * that of 99 %. It is the least such one of 0, 1, 3, 7, 15 .., or the greatest number, if that is
+ * less. More than 1000 count as 1000. */
+uint64_t cbs_spread_at_most(const struct cbs_spread *spread, uint64_t per_mille);
+
+/* Notes that so many jobs of a server are accepted in all, as cbs_view tells after a question that
+ * took messages. Those that were not noted before were accepted at this time.
+ * `came` is a ring of n times, which is the program's: n is the backlog of the house, or more. */
+void cbs_figures_accepted(struct cbs_figures *figures, uint64_t *came, size_t n, uint64_t accepted,
+                          uint64_t time);
+
+/* Notes that a unit of the server ended at this time, was charged so many ticks, and has this
+ * lateness. If it was the last of its job, the response of the job is added, unless more jobs were
+ * accepted since than `came` has places. */
+void cbs_figures_ended(struct cbs_figures *figures, const uint64_t *came, size_t n,
+                       const struct cbs_unit *unit, uint64_t time, uint64_t charged,
+                       uint64_t lateness);
+
+/* Returns the share of the server: how many of a thousand ticks of the house's clock were those of
+ * its units or charged for these. It is rounded down, and 0 if there is no tick. */
+uint64_t cbs_figures_share(const struct cbs_figures *figures);
+
+/* Returns by how many ticks a unit of a server ended after the deadline by which it was chosen, and
+ * 0 if it did not. The view is that of the server, and `clock` what cbs_now tells, both right after
+ * the call that told the unit. `charged` are the ticks that the unit was then charged. */
+uint64_t cbs_lateness(const struct cbs_server *server, const struct cbs_view *view, uint64_t clock,
+                      uint64_t charged);
 
 /* ---- Of a client: by one thread at a time, beside calls on the house and on other clients ---- */
 

@@ -48,6 +48,7 @@
 #include <functional>
 #include <limits>
 #include <memory>
+#include <new>
 #include <optional>
 #include <stdexcept>
 #include <string>
@@ -59,6 +60,7 @@ namespace cbs {
 
 class Client;
 class House;
+class Live;
 class Plan;
 class Realtime;
 
@@ -164,6 +166,64 @@ struct Counts {
     std::uint64_t charged;            // how many ticks were charged for overruns
     std::uint64_t behind;             // how many whole ticks the house is behind the real clock
     std::uint64_t most_behind;        // the most that this was
+};
+
+// A summary of numbers, in a memory that stays the same. No number passes UINT64_MAX: it stops
+// there.
+class Spread {
+public:
+    // The summary of no numbers.
+    Spread() = default;
+
+    // Adds one more number.
+    void add(std::uint64_t number) noexcept { cbs_spread_add(&own, number); }
+
+    // Returns how many numbers there are.
+    std::uint64_t count() const noexcept { return own.count; }
+
+    // Returns the sum of the numbers.
+    std::uint64_t total() const noexcept { return own.total; }
+
+    // Returns the least of the numbers, and 0 if there is none.
+    std::uint64_t least() const noexcept { return own.least; }
+
+    // Returns the greatest of the numbers, and 0 if there is none.
+    std::uint64_t greatest() const noexcept { return own.greatest; }
+
+    // Returns the mean, rounded down, and 0 if there is no number.
+    std::uint64_t mean() const noexcept { return cbs_spread_mean(&own); }
+
+    // Returns a number such that at least so many of a thousand numbers are at most that: 990 asks
+    // for 99 %. It is the least such one of 0, 1, 3, 7, 15 .., or the greatest number, if that is
+    // less.
+    std::uint64_t at_most(std::uint64_t per_mille) const noexcept {
+        return cbs_spread_at_most(&own, per_mille);
+    }
+
+    // Returns how many numbers are of power k, 0 to 64. A 0 is of power 0. Another number is of
+    // power k if the number is below 2^k and not below 2^(k - 1).
+    std::uint64_t of_power(std::size_t k) const noexcept { return k < 65 ? own.powers[k] : 0; }
+
+private:
+    friend Live;
+    explicit Spread(const cbs_spread &from) noexcept : own(from) {}
+    cbs_spread own{};
+};
+
+// The figures of one server. No number passes UINT64_MAX: it stops there.
+struct Figures {
+    std::uint64_t ticks;    // by how many ticks the house's clock went on
+    std::uint64_t accepted; // how many jobs were accepted
+    std::uint64_t units;    // how many units have ended
+    std::uint64_t charged;  // how many ticks were charged for these
+    std::uint64_t share;    // how many of a thousand ticks the server took, rounded down
+    std::uint64_t late;     // how many units ended after the deadline by which they were chosen
+    // Of the jobs that are done, in nanoseconds: from the question that took the job from its ring
+    // to the end of the job's last unit. The wait in the ring before is not in it.
+    Spread responses;
+    // Of the units that have ended, in ticks: by how much the house's clock, after the unit and the
+    // unit's charge, was past the deadline by which the unit was chosen. 0 if it was not.
+    Spread lateness;
 };
 
 // What becomes of the rest of a unit, if that rest is less than a tick.
@@ -338,12 +398,42 @@ private:
 struct Shared {
     Bell bell;
     std::deque<Lane> lanes; // one for each server
+    const std::vector<cbs_server> rates;
+    const std::size_t backlog;
 
-    Shared(std::size_t servers, std::size_t places) {
-        for (std::size_t server = 0; server < servers; server++) {
+    Shared(std::vector<cbs_server> servers, std::size_t of_backlog, std::size_t places)
+        : rates(std::move(servers)), backlog(of_backlog) {
+        for (std::size_t server = 0; server < rates.size(); server++) {
             lanes.emplace_back(places);
         }
     }
+};
+
+// Owns the figures of cbs_realtime.h, and the names in these.
+class Kept {
+public:
+    Kept(const Shared &of, std::vector<std::string> with) : names(std::move(with)) {
+        names.resize(of.rates.size());
+        for (std::size_t server = 0; server < names.size(); server++) {
+            std::string &name = names[server];
+            name = name.empty() ? std::to_string(server) : name;
+            pointers.push_back(name.c_str());
+        }
+        if (cbs_live_open(&own, of.rates.data(), of.rates.size(), of.backlog, pointers.data()) !=
+            0) {
+            throw std::bad_alloc();
+        }
+    }
+    Kept(const Kept &) = delete;
+    Kept &operator=(const Kept &) = delete;
+    ~Kept() { cbs_live_close(&own); }
+    cbs_live *get() noexcept { return &own; }
+    const std::vector<std::string> &all() const noexcept { return names; }
+
+private:
+    std::vector<std::string> names;
+    std::vector<const char *> pointers;
+    cbs_live own;
 };
 
 // Frees the handles that nobody has taken.
@@ -564,6 +654,52 @@ private:
     std::shared_ptr<detail::Shared> shared;
 };
 
+// Reads the figures of each server of a house, as the house runs, from any thread. House::live has
+// the figures kept. A Live may be copied, and may outlive the house.
+class Live {
+public:
+    // Returns how many servers there are, numbered from 0.
+    std::size_t servers() const noexcept { return kept->all().size(); }
+
+    // Returns the name of a server. Throws Error with CBS_HOUSE_NO_SUCH_SERVER.
+    const std::string &name(std::size_t server) const {
+        detail::must_hold(server < servers(), CBS_HOUSE_NO_SUCH_SERVER);
+        return kept->all()[server];
+    }
+
+    // Returns the figures of a server as they stand. A lock is held for this copy.
+    // Throws Error with CBS_HOUSE_NO_SUCH_SERVER.
+    Figures read(std::size_t server) const {
+        struct ::cbs_figures of;
+        detail::must(cbs_live_read(kept->get(), server, &of));
+        return {of.ticks,
+                of.accepted,
+                of.units,
+                of.charged,
+                cbs_figures_share(&of),
+                of.lateness.count - of.lateness.powers[0],
+                Spread(of.responses),
+                Spread(of.lateness)};
+    }
+
+    // Returns a table of all servers, a line for each, as cbs_live_print prints it.
+    std::string table() const {
+        std::array<char, 512> line;
+        cbs_live_head(line.data(), line.size());
+        std::string all = std::string(line.data()) + "\n";
+        for (std::size_t server = 0; server < servers(); server++) {
+            cbs_live_row(kept->get(), server, line.data(), line.size());
+            all += std::string(line.data()) + "\n";
+        }
+        return all;
+    }
+
+private:
+    friend House;
+    explicit Live(std::shared_ptr<detail::Kept> of) : kept(std::move(of)) {}
+    std::shared_ptr<detail::Kept> kept;
+};
+
 // The serving thread's side. The destructor frees all jobs that are not finished, those in the
 // rings too. A unit may look at its house, but may neither serve nor free the house.
 //
@@ -581,6 +717,7 @@ public:
             handle = std::move(other.handle);
             shared = std::move(other.shared);
             served = std::move(other.served);
+            kept = std::move(other.kept);
         }
         return *this;
     }
@@ -711,6 +848,17 @@ public:
         detail::must(cbs_charge(handle.get(), number(server), ticks));
     }
 
+    // Has the figures of each server kept from now on, as the house runs in real time: by Realtime,
+    // or by next and done. names[i] is the name of server i; an empty one, or none, is the server's
+    // number. A job that was accepted before counts from the first question on.
+    //
+    // Returns what reads the figures, from any thread.
+    Live live(std::vector<std::string> names = {}) {
+        detail::must_hold(shared != nullptr, CBS_CALL_NOT_OPEN);
+        kept = std::make_shared<detail::Kept>(*shared, std::move(names));
+        return Live(kept);
+    }
+
     // ---- A loop of the program's own, in real time ----
     //
     // Readings are of any clock that the program likes. House::wait wants those of
@@ -735,6 +883,7 @@ public:
     Next next(Pacer &pacer, std::chrono::nanoseconds time, const Work &work = Work()) {
         struct ::cbs_next told;
         detail::must(::cbs_next(handle.get(), &pacer.own, detail::nanoseconds_of(time), &told));
+        note(pacer, time, told);
         return follows(told, work);
     }
 
@@ -745,6 +894,7 @@ public:
         struct ::cbs_next told;
         detail::must(cbs_next_measured(handle.get(), &pacer.own, detail::nanoseconds_of(time),
                                        detail::nanoseconds_of(took), &told));
+        note(pacer, time, told);
         return follows(told, work);
     }
 
@@ -752,12 +902,14 @@ public:
     // asking, for now or for ever.
     void done(Pacer &pacer, std::chrono::nanoseconds time) {
         detail::must(cbs_done(handle.get(), &pacer.own, detail::nanoseconds_of(time)));
+        note_done(pacer, time);
     }
 
     // Does what done does, but charges the time `took`, as next_measured does.
     void done_measured(Pacer &pacer, std::chrono::nanoseconds time, std::chrono::nanoseconds took) {
         detail::must(cbs_done_measured(handle.get(), &pacer.own, detail::nanoseconds_of(time),
                                        detail::nanoseconds_of(took)));
+        note_done(pacer, time);
     }
 
     // Waits for a send, an end, a client that is freed or a stop. The wait ends when
@@ -823,6 +975,23 @@ private:
         return unit;
     }
 
+    cbs_live *figures() const noexcept { return kept ? kept->get() : nullptr; }
+
+    // Notes what came of a question in the figures, if they are kept.
+    void note(const Pacer &pacer, std::chrono::nanoseconds time, const struct ::cbs_next &told) {
+        if (kept) {
+            cbs_live_asked(figures(), handle.get(), &pacer.own, detail::nanoseconds_of(time),
+                           &told);
+        }
+    }
+
+    // Notes the end of the unit before in the figures, if they are kept.
+    void note_done(const Pacer &pacer, std::chrono::nanoseconds time) {
+        if (kept) {
+            cbs_live_done(figures(), &pacer.own, detail::nanoseconds_of(time));
+        }
+    }
+
     Ran ran(const cbs_unit &told, const Work &work) {
         if (told.kind == CBS_RUN_IDLE || told.kind == CBS_RUN_CLOCK_END) {
             return {std::nullopt, told.kind == CBS_RUN_CLOCK_END};
@@ -859,10 +1028,12 @@ private:
         }
         served.clear();
         shared.reset();
+        kept.reset();
     }
 
     std::vector<Served> served;
     std::shared_ptr<detail::Shared> shared;
+    std::shared_ptr<detail::Kept> kept; // none if no figures are kept
     mutable detail::Handle handle;
 };
 
@@ -916,7 +1087,8 @@ public:
         detail::must(cbs_open(servers.data(), count, backlog, ring, &opened.house,
                               opened.clients.data(), count));
         // A place is filled before the ring is known to be full, so there is one more.
-        const auto shared = std::make_shared<detail::Shared>(count, backlog + ring + 1);
+        const std::vector<cbs_server> rates(servers.data(), servers.data() + count);
+        const auto shared = std::make_shared<detail::Shared>(rates, backlog, backlog + ring + 1);
         Opened all{House(opened.house, shared, count), {}};
         all.clients.reserve(count);
         for (std::size_t server = 0; server < count; server++) {
@@ -987,6 +1159,7 @@ public:
             return Ended::Stopped;
         }
         struct ::cbs_next next;
+        own.live = served.figures();
         detail::must(cbs_realtime_ask(&own, served.handle.get(), &next));
         own_taken = next.taken;
         served.make_room(next.taken);
@@ -997,7 +1170,10 @@ public:
 
     // Ends the unit of the last step now, and charges its server. This is for a program that takes
     // no more steps, for now or for ever.
-    void done() { detail::must(cbs_realtime_done(&own, served.handle.get())); }
+    void done() {
+        own.live = served.figures();
+        detail::must(cbs_realtime_done(&own, served.handle.get()));
+    }
 
     // Returns how many messages the last step took from the rings, ends included.
     std::size_t taken() const noexcept { return own_taken; }

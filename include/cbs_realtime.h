@@ -24,7 +24,10 @@
 #endif
 #include "cbs.h"
 #include <errno.h>
+#include <inttypes.h>
 #include <pthread.h>
+#include <stdio.h>
+#include <stdlib.h>
 #include <string.h>
 #include <time.h>
 #ifndef TIMER_ABSTIME
@@ -192,6 +195,204 @@ static inline uint64_t cbs_clock_worked(void) {
 }
 #endif
 
+/* ---- Live figures ----
+ *
+ *     struct cbs_live live;
+ *     cbs_live_open(&live, servers, 2, 16, names);   of the servers and the backlog of the house
+ *     realtime.live = &live;
+ *     cbs_live_print(&live, stdout);                  from any thread, while the house runs
+ */
+
+/* The figures of each server of a house. The fields are the header's. It stays where it is, and
+ * lives longer than whoever serves the house and whoever reads. */
+struct cbs_live {
+    size_t servers;           /* how many there are */
+    size_t backlog;
+    const char *const *names;
+    struct cbs_server *rates; /* their reservations */
+    pthread_mutex_t lock;     /* held to read or write what follows */
+    struct cbs_figures *figures;
+    uint64_t *came;           /* when each unfinished job was accepted: a ring for each server */
+    uint64_t ticks;           /* by how many the house's clock went on */
+    /* The serving thread's alone: */
+    bool begun;
+    bool doing;            /* whether a unit is being done: the one below */
+    struct cbs_unit unit;
+    struct cbs_view view;  /* of its server, after it was told */
+    uint64_t clock;        /* what the house's clock showed then */
+    uint64_t first;        /* what it showed when the figures began */
+    uint64_t charged;      /* what was charged in all, as seen last */
+};
+
+/* Makes the lock of figures. A reader that the serving thread waits for inherits its priority. */
+static inline int cbs_live_lock(pthread_mutex_t *lock) {
+    pthread_mutexattr_t inherits;
+    int error = pthread_mutexattr_init(&inherits);
+    if (error == 0) {
+        pthread_mutexattr_setprotocol(&inherits, PTHREAD_PRIO_INHERIT);
+        error = pthread_mutex_init(lock, &inherits);
+        pthread_mutexattr_destroy(&inherits);
+    }
+    return error;
+}
+
+/* Makes the figures of a house with these n servers and this backlog. names[i] is the name of
+ * server i. The names stay the program's, and stay there. Where there is none (NULL, also for all
+ * of them) the number of the server stands for it. Returns 0, ENOMEM, or the error number of the
+ * pthread call that failed. */
+static inline int cbs_live_open(struct cbs_live *live, const struct cbs_server *servers, size_t n,
+                                size_t backlog, const char *const *names) {
+    memset(live, 0, sizeof *live);
+    live->servers = n;
+    live->backlog = backlog;
+    live->names = names;
+    live->rates = CBS_CAST(struct cbs_server *, calloc(n + 1, sizeof *live->rates));
+    live->figures = CBS_CAST(struct cbs_figures *, calloc(n + 1, sizeof *live->figures));
+    live->came = CBS_CAST(uint64_t *, calloc(n * backlog + 1, sizeof *live->came));
+    int error = ENOMEM;
+    if (live->rates != NULL && live->figures != NULL && live->came != NULL) {
+        memcpy(live->rates, servers, n * sizeof *servers);
+        error = cbs_live_lock(&live->lock);
+    }
+    if (error != 0) {
+        free(live->rates);
+        free(live->figures);
+        free(live->came);
+    }
+    return error;
+}
+
+/* Frees figures that nobody keeps or reads any more. */
+static inline void cbs_live_close(struct cbs_live *live) {
+    pthread_mutex_destroy(&live->lock);
+    free(live->rates);
+    free(live->figures);
+    free(live->came);
+}
+
+/* Writes the figures of a server as they stand. From any thread; the lock is held for this copy.
+ * What units are counted have ended. Refuses by CBS_HOUSE_NO_SUCH_SERVER. */
+static inline uint32_t cbs_live_read(struct cbs_live *live, size_t server,
+                                     struct cbs_figures *figures) {
+    if (server >= live->servers) {
+        return CBS_HOUSE_NO_SUCH_SERVER;
+    }
+    pthread_mutex_lock(&live->lock);
+    *figures = live->figures[server];
+    figures->ticks = live->ticks;
+    pthread_mutex_unlock(&live->lock);
+    return CBS_OK;
+}
+
+/* Writes the head of the table, and the row of a server: at most n bytes, with the zero byte, as
+ * snprintf does. They have no end of line. */
+static inline int cbs_live_head(char *out, size_t n) {
+    return snprintf(out, n, "%-14s %9s %7s %10s %10s %10s %11s %10s %10s", "server", "jobs done",
+                    "share", "least ms", "mean ms", "99 % ms", "greatest ms", "late units",
+                    "most ticks");
+}
+
+static inline int cbs_live_row(struct cbs_live *live, size_t server, char *out, size_t n) {
+    struct cbs_figures of;
+    char number[24];
+    const char *name = live->names == NULL ? NULL : live->names[server];
+    cbs_live_read(live, server, &of);
+    snprintf(number, sizeof number, "%lu", CBS_CAST(unsigned long, server));
+    uint64_t share = cbs_figures_share(&of);
+    return snprintf(out, n,
+                    "%-14s %9" PRIu64 " %4" PRIu64 ".%" PRIu64
+                    " %% %9.3f %10.3f %10.3f %11.3f %10" PRIu64 " %10" PRIu64,
+                    name == NULL ? number : name, of.responses.count, share / 10, share % 10,
+                    CBS_CAST(double, of.responses.least) / 1e6,
+                    CBS_CAST(double, cbs_spread_mean(&of.responses)) / 1e6,
+                    CBS_CAST(double, cbs_spread_at_most(&of.responses, 990)) / 1e6,
+                    CBS_CAST(double, of.responses.greatest) / 1e6,
+                    of.lateness.count - of.lateness.powers[0], of.lateness.greatest);
+}
+
+/* Prints a table of all servers: the jobs that are done, the share of the house's ticks, the least,
+ * the mean and the greatest response, and a bound that 99 % of the responses keep, in milliseconds;
+ * how many units were late, and by how many ticks at most. From any thread. */
+static inline void cbs_live_print(struct cbs_live *live, FILE *to) {
+    char line[256];
+    cbs_live_head(line, sizeof line);
+    fprintf(to, "%s\n", line);
+    for (size_t server = 0; server < live->servers; server++) {
+        cbs_live_row(live, server, line, sizeof line);
+        fprintf(to, "%s\n", line);
+    }
+}
+
+/* Notes the end of the unit that was being done, if one was. */
+static inline void cbs_live_end(struct cbs_live *live, uint64_t time, uint64_t charged) {
+    if (live->doing) {
+        size_t server = live->unit.server;
+        uint64_t ticks = charged > live->charged ? charged - live->charged : 0;
+        uint64_t late = cbs_lateness(&live->rates[server], &live->view, live->clock, ticks);
+        cbs_figures_ended(&live->figures[server], &live->came[server * live->backlog],
+                          live->backlog, &live->unit, time, ticks, late);
+        live->ticks = live->clock + ticks - live->first;
+    }
+    live->doing = false;
+    live->charged = charged;
+}
+
+/* Notes which jobs were accepted by a question at this time. */
+static inline void cbs_live_accepted(struct cbs_live *live, struct cbs_handle *house,
+                                     uint64_t time) {
+    struct cbs_view view;
+    for (size_t server = 0; server < live->servers; server++) {
+        if (cbs_view(house, CBS_CAST(uint16_t, server), &view) == CBS_OK) {
+            cbs_figures_accepted(&live->figures[server], &live->came[server * live->backlog],
+                                 live->backlog, view.accepted, time);
+        }
+    }
+}
+
+/* Notes the unit that was told, if one was, and how far the house's clock went on. */
+static inline void cbs_live_told(struct cbs_live *live, struct cbs_handle *house,
+                                 const struct cbs_next *next) {
+    uint64_t told = next->kind == CBS_NEXT_UNIT ? 1 : 0;
+    if (cbs_now(house, &live->clock) != CBS_OK) {
+        return;
+    }
+    if (!live->begun) {
+        live->begun = true;
+        live->first = live->clock - told;
+    }
+    live->ticks = live->clock - told - live->first; /* without the unit that is being done */
+    live->unit = next->unit;
+    live->doing = told == 1 && next->unit.server < live->servers &&
+                  cbs_view(house, next->unit.server, &live->view) == CBS_OK;
+}
+
+/* Notes what came of a question: of cbs_next at this time, or cbs_next_measured, by this pacer.
+ * For a loop of the program's own, after each question. cbs_realtime_ask does it. */
+static inline void cbs_live_asked(struct cbs_live *live, struct cbs_handle *house,
+                                  const struct cbs_pacer *pacer, uint64_t time,
+                                  const struct cbs_next *next) {
+    struct cbs_counts counts;
+    cbs_counts(pacer, &counts);
+    pthread_mutex_lock(&live->lock);
+    cbs_live_end(live, time, counts.charged);
+    if (next->taken > 0 || !live->begun) {
+        cbs_live_accepted(live, house, time);
+    }
+    cbs_live_told(live, house, next);
+    pthread_mutex_unlock(&live->lock);
+}
+
+/* Notes what came of cbs_done or cbs_done_measured at this time, by this pacer. cbs_realtime_done
+ * does it. */
+static inline void cbs_live_done(struct cbs_live *live, const struct cbs_pacer *pacer,
+                                 uint64_t time) {
+    struct cbs_counts counts;
+    cbs_counts(pacer, &counts);
+    pthread_mutex_lock(&live->lock);
+    cbs_live_end(live, time, counts.charged);
+    pthread_mutex_unlock(&live->lock);
+}
+
 /* ---- The loop ---- */
 
 /* A house in real time. */
@@ -209,6 +410,7 @@ struct cbs_realtime {
      * kept, and comes later by as much. Work that sleeps, or waits for other threads, does not pay
      * for that. */
     bool processor_time;
+    struct cbs_live *live;    /* where figures are kept, for any thread to read; NULL for none */
     struct cbs_counts counts; /* for the serving thread to read at any time */
     bool over;                /* whether every server is closed and every job is finished */
     /* The header's own: */
@@ -217,7 +419,8 @@ struct cbs_realtime {
     struct cbs_pacer pacer;
 };
 
-/* Returns a house in real time that has not begun. Its carry and its processor_time are false. */
+/* Returns a house in real time that has not begun. Its carry and its processor_time are false, and
+ * no figures are kept. */
 static inline struct cbs_realtime cbs_realtime_of(
     uint64_t tick, struct cbs_bell *bell,
     void (*work)(void *context, const struct cbs_unit *unit), void *context) {
@@ -252,6 +455,9 @@ static inline uint32_t cbs_realtime_ask(struct cbs_realtime *self, struct cbs_ha
                      : cbs_next(house, &self->pacer, now, next);
         cbs_counts(&self->pacer, &self->counts);
     }
+    if (status == CBS_OK && self->live != NULL) {
+        cbs_live_asked(self->live, house, &self->pacer, now, next);
+    }
     return status;
 }
 
@@ -262,6 +468,9 @@ static inline uint32_t cbs_realtime_done(struct cbs_realtime *self, struct cbs_h
                           ? cbs_done_measured(house, &self->pacer, now, cbs_realtime_took(self))
                           : cbs_done(house, &self->pacer, now);
     cbs_counts(&self->pacer, &self->counts);
+    if (self->live != NULL) {
+        cbs_live_done(self->live, &self->pacer, now);
+    }
     return status;
 }
 

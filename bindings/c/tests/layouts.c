@@ -16,6 +16,7 @@ struct guarded_view { char before; struct cbs_view it; char after[8]; };
 struct guarded_next { char before; struct cbs_next it; char after[8]; };
 struct guarded_pacer { char before; struct cbs_pacer it; char after[8]; };
 struct guarded_counts { char before; struct cbs_counts it; char after[8]; };
+struct guarded_figures { char before; struct cbs_figures it; char after[8]; };
 
 /* What the declarations of other languages count on. */
 static void layouts(void) {
@@ -60,6 +61,23 @@ static void layouts_of_pacing(void) {
     FIELD(cbs_counts, charged, 24, 8);
     FIELD(cbs_counts, behind, 32, 8);
     FIELD(cbs_counts, most_behind, 40, 8);
+}
+
+/* Of figures. */
+static void layouts_of_figures(void) {
+    CHECK(sizeof(struct cbs_spread) == 552 && sizeof(struct cbs_figures) == 1136);
+    CHECK(offsetof(struct guarded_figures, it) == 8);
+    FIELD(cbs_spread, count, 0, 8);
+    FIELD(cbs_spread, total, 8, 8);
+    FIELD(cbs_spread, least, 16, 8);
+    FIELD(cbs_spread, greatest, 24, 8);
+    FIELD(cbs_spread, powers, 32, 520);
+    FIELD(cbs_figures, ticks, 0, 8);
+    FIELD(cbs_figures, accepted, 8, 8);
+    FIELD(cbs_figures, units, 16, 8);
+    FIELD(cbs_figures, charged, 24, 8);
+    FIELD(cbs_figures, responses, 32, 552);
+    FIELD(cbs_figures, lateness, 584, 552);
 }
 
 /* The library has these layouts, too: it writes each field, and nothing beside the struct, and reads nothing between fields. */
@@ -155,11 +173,53 @@ static void fields_of_pacing(void) {
     tear_down(&setup);
 }
 
+/* The same of figures. A response of 700 is of power 10, and a lateness of 2^63 of power 64. */
+static void fields_of_figures(void) {
+    uint64_t came[3] = {0x5a, 0, 0x5a};
+    struct cbs_unit unit = {CBS_RUN_DONE, 0, 0, 7};
+    struct guarded_figures figures;
+    memset(&figures, 0x5a, sizeof figures);
+    memset(&figures.it, 0, sizeof figures.it);
+    figures.it.ticks = 9;
+    cbs_figures_accepted(&figures.it, &came[1], 1, 1, 300);
+    cbs_figures_ended(&figures.it, &came[1], 1, &unit, 1000, 5, (uint64_t)1 << 63);
+    CHECK(figures.it.ticks == 9 && figures.it.accepted == 1);
+    CHECK(figures.it.units == 1 && figures.it.charged == 5);
+    const struct cbs_spread *responses = &figures.it.responses, *lateness = &figures.it.lateness;
+    CHECK(responses->count == 1 && responses->total == 700 && responses->powers[10] == 1);
+    CHECK(responses->least == 700 && responses->greatest == 700);
+    CHECK(lateness->count == 1 && lateness->powers[64] == 1 && lateness->powers[10] == 0);
+    CHECK(cbs_figures_share(&figures.it) == 666);
+    CHECK(came[0] == 0x5a && came[1] == 300 && came[2] == 0x5a);
+    CHECK(untouched(&figures.before, 1) && untouched(figures.after, 8));
+}
+
+/* A server's budget, its period and both halves of its deadline are read. */
+static void fields_of_lateness(void) {
+    struct cbs_server server;
+    struct cbs_view view;
+    memset(&server, 0x5a, sizeof server);
+    memset(&view, 0x5a, sizeof view);
+    server.budget = 3;
+    server.period = 10;
+    view.budget = 2;
+    view.deadline_low = 30;
+    view.deadline_high = 0;
+    CHECK(cbs_lateness(&server, &view, 30, 2) == 2);
+    view.budget = 3;
+    CHECK(cbs_lateness(&server, &view, 30, 2) == 12);
+    view.deadline_high = 1;
+    CHECK(cbs_lateness(&server, &view, 30, 2) == 0);
+}
+
 int main(void) {
     layouts();
     layouts_of_pacing();
+    layouts_of_figures();
     fields();
     fields_of_pacing();
+    fields_of_figures();
+    fields_of_lateness();
     puts("the layouts of all structs: as they should be");
     return 0;
 }

@@ -505,7 +505,72 @@ static void houses_go() {
     }
 }
 
+// Figures of a house, which a thread beside it reads.
+static void figures() {
+    cbs::Plan plan;
+    plan.admit(1, 2, cbs::Mode::Soft);
+    plan.admit(1, 4, cbs::Mode::Throttled);
+    auto [house, clients] = plan.open(8, 8);
+    throws(CBS_CALL_NOT_OPEN, [] { cbs::House().live(); });
+    const cbs::Live live = house.live({"control"});
+    CHECK(live.servers() == 2 && live.name(0) == "control" && live.name(1) == "1");
+    throws(CBS_HOUSE_NO_SUCH_SERVER, [&] { live.read(2); });
+    throws(CBS_HOUSE_NO_SUCH_SERVER, [&] { live.name(2); });
+    std::atomic<bool> runs{true};
+    std::thread reader([&runs, live] {
+        std::uint64_t units = 0;
+        while (runs) {
+            const cbs::Figures now = live.read(0);
+            CHECK(now.units >= units && now.units + now.charged <= now.ticks);
+            units = now.units;
+        }
+    });
+    for (int job = 0; job < 4; job++) {
+        CHECK(clients[0].send(7, 2) == cbs::Send::Sent);
+        CHECK(clients[1].send(8, 1) == cbs::Send::Sent);
+    }
+    clients.clear();
+    cbs::Realtime(house, 100us).run();
+    runs = false;
+    reader.join();
+    house = cbs::House();
+    const cbs::Figures control = live.read(0), other = live.read(1);
+    CHECK(control.accepted == 4 && control.responses.count() == 4 && control.units == 8);
+    CHECK(other.accepted == 4 && other.responses.count() == 4 && other.units == 4);
+    CHECK(control.lateness.count() == 8 && control.late == 8 - control.lateness.of_power(0));
+    CHECK(control.responses.least() <= control.responses.mean());
+    CHECK(control.responses.mean() <= control.responses.greatest());
+    CHECK(control.responses.at_most(1000) == control.responses.greatest());
+    CHECK(control.share + other.share <= 1000 && control.share >= other.share);
+    CHECK(live.table().find("\ncontrol ") != std::string::npos);
+}
+
+// Figures that a loop of the program's own has kept, by readings of the test.
+static void figures_of_a_loop() {
+    cbs::Plan plan;
+    plan.admit(2, 5, cbs::Mode::Soft);
+    auto [house, clients] = plan.open(1, 8);
+    const cbs::Live live = house.live();
+    cbs::Pacer pacer = house.pace(1us, cbs::Rounding::Up, 0ns);
+    CHECK(clients[0].send(7, 2) == cbs::Send::Sent);
+    CHECK(house.next(pacer, 0ns).kind == cbs::Next::Kind::Unit);
+    CHECK(house.next_measured(pacer, 3000ns, 900ns).kind == cbs::Next::Kind::Unit);
+    house.done(pacer, 12500ns); // it takes 9.5 ticks, and was chosen by 5
+    const cbs::Figures now = live.read(0);
+    CHECK(now.ticks == 11 && now.units == 2 && now.charged == 9 && now.share == 1000);
+    CHECK(now.lateness.total() == 6 && now.late == 1);
+    CHECK(now.responses.count() == 1 && now.responses.total() == 12500);
+    house.done_measured(pacer, 12600ns, 0ns);
+    CHECK(live.read(0).units == 2);
+    cbs::Spread spread;
+    spread.add(5);
+    CHECK(spread.count() == 1 && spread.at_most(1) == 5 && spread.of_power(3) == 1);
+    CHECK(spread.of_power(65) == 0);
+}
+
 int main() {
+    figures();
+    figures_of_a_loop();
     plans();
     by_hand();
     the_clock_ends();

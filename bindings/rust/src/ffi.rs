@@ -4,6 +4,7 @@
 //! `Sync`, and no call comes back into the program, so that it is in one call at a time, also by `&`; it goes to another thread
 //! as any value does, ordered by whatever sends it there; references are never null, and out parameters are locals of their own.
 
+use crate::live::{Figures, Spread};
 use std::cell::UnsafeCell;
 use std::ffi::c_void;
 use std::fmt;
@@ -85,7 +86,7 @@ pub(crate) mod kind {
 
 /// `struct cbs_unit`.
 #[repr(C)]
-#[derive(Clone, Copy, Default)]
+#[derive(Clone, Copy, Debug, Default)]
 pub(crate) struct Unit {
     pub(crate) kind: u32,
     pub(crate) server: u16,
@@ -106,7 +107,7 @@ pub(crate) struct Turn {
 
 /// `struct cbs_view`.
 #[repr(C)]
-#[derive(Clone, Copy, Default)]
+#[derive(Clone, Copy, Debug, Default)]
 pub(crate) struct View {
     pub(crate) budget: u64,
     pub(crate) deadline_low: u64,
@@ -187,6 +188,27 @@ extern "C" {
     fn cbs_counts(pacer: *const Pacer, counts: *mut Counts);
     #[cfg(test)]
     fn cbs_pacer_size() -> usize;
+    fn cbs_spread_add(spread: *mut Spread, number: u64);
+    fn cbs_spread_mean(spread: *const Spread) -> u64;
+    fn cbs_spread_at_most(spread: *const Spread, per_mille: u64) -> u64;
+    fn cbs_figures_accepted(
+        figures: *mut Figures,
+        came: *mut u64,
+        n: usize,
+        accepted: u64,
+        time: u64,
+    );
+    fn cbs_figures_ended(
+        figures: *mut Figures,
+        came: *const u64,
+        n: usize,
+        unit: *const Unit,
+        time: u64,
+        charged: u64,
+        lateness: u64,
+    );
+    fn cbs_figures_share(figures: *const Figures) -> u64;
+    fn cbs_lateness(server: *const Server, view: *const View, clock: u64, charged: u64) -> u64;
     fn cbs_send(client: *mut Raw, token: u64, units: u32, seq: *mut u64) -> u32;
     fn cbs_end(client: *mut Raw) -> u32;
     fn cbs_waiting(client: *mut Raw, out: *mut u64) -> u32;
@@ -206,7 +228,8 @@ fn answered<T>(status: u32, value: T) -> Result<T, Status> {
 
 // SAFETY of the calls below: each handle is not open or owned by the `Handle` that is borrowed, which is in no other call, since
 // it is not `Sync` and no call runs code of the program; slices give a pointer that is not null, and their length; each out
-// parameter is a local of its own; a pacer is what `cbs_pace` wrote, and is borrowed alone.
+// parameter is a local of its own; a pacer is what `cbs_pace` wrote, and is borrowed alone; figures are plain data, which any
+// bytes are.
 
 /// Ends the program if the library that was linked is not of the version that this crate was written for.
 fn must_fit() {
@@ -374,6 +397,49 @@ pub(crate) fn counts(pacer: &Pacer) -> Counts {
 }
 
 #[inline]
+pub(crate) fn spread_add(spread: &mut Spread, number: u64) {
+    unsafe { cbs_spread_add(spread, number) }
+}
+
+#[inline]
+pub(crate) fn spread_mean(spread: &Spread) -> u64 {
+    unsafe { cbs_spread_mean(spread) }
+}
+
+#[inline]
+pub(crate) fn spread_at_most(spread: &Spread, per_mille: u64) -> u64 {
+    unsafe { cbs_spread_at_most(spread, per_mille) }
+}
+
+#[inline]
+pub(crate) fn figures_accepted(figures: &mut Figures, came: &mut [u64], accepted: u64, time: u64) {
+    unsafe { cbs_figures_accepted(figures, came.as_mut_ptr(), came.len(), accepted, time) }
+}
+
+#[inline]
+pub(crate) fn figures_ended(
+    figures: &mut Figures,
+    came: &[u64],
+    unit: &Unit,
+    time: u64,
+    charged: u64,
+    lateness: u64,
+) {
+    let (at, n) = (came.as_ptr(), came.len());
+    unsafe { cbs_figures_ended(figures, at, n, unit, time, charged, lateness) }
+}
+
+#[inline]
+pub(crate) fn figures_share(figures: &Figures) -> u64 {
+    unsafe { cbs_figures_share(figures) }
+}
+
+#[inline]
+pub(crate) fn lateness(server: &Server, view: &View, clock: u64, charged: u64) -> u64 {
+    unsafe { cbs_lateness(server, view, clock, charged) }
+}
+
+#[inline]
 pub(crate) fn send(client: &mut Handle, token: u64, units: u32) -> Result<u64, Status> {
     let mut seq = 0;
     let status = unsafe { cbs_send(client.0.get(), token, units, &mut seq) };
@@ -420,6 +486,8 @@ mod tests {
         assert_eq!(size_of::<Next>(), 40);
         assert_eq!(size_of::<Counts>(), 48);
         assert_eq!(size_of::<Pacer>(), 608);
+        assert_eq!(size_of::<Spread>(), 552);
+        assert_eq!(size_of::<Figures>(), 1136);
         assert_eq!(unsafe { cbs_pacer_size() }, size_of::<Pacer>());
     }
 }

@@ -1,7 +1,8 @@
 use crate::bell::{Bell, Stopper};
 use crate::doing::Doer;
 use crate::error::{not_answered, HouseError, RunError};
-use crate::ffi::{self, kind, Handle, Status};
+use crate::ffi::{self, kind, Handle, Server, Status};
+use crate::live::{Keeper, Live};
 use crate::pacer::{nanos, Next, Pacer, Rounding};
 use crate::tokens::Tokens;
 use crate::unit::{Token, Unfinished, Unit};
@@ -19,6 +20,9 @@ pub struct House<T = u64> {
     bell: Arc<Bell>,
     doer: Arc<Doer>,
     stopper: Stopper,
+    rates: Arc<[Server]>,
+    backlog: usize,
+    keeper: Option<Keeper>,
 }
 
 /// The jobs of one server, as the crate sees them.
@@ -162,6 +166,8 @@ impl<T> House<T> {
         tokens: Vec<Arc<Tokens<T>>>,
         bell: Arc<Bell>,
         doer: Arc<Doer>,
+        rates: Arc<[Server]>,
+        backlog: usize,
     ) -> House<T> {
         let served = |tokens| Served {
             tokens,
@@ -174,6 +180,9 @@ impl<T> House<T> {
             stopper: Stopper::new(Arc::clone(&bell)),
             bell,
             doer,
+            rates,
+            backlog,
+            keeper: None,
         }
     }
 
@@ -326,6 +335,19 @@ impl<T> House<T> {
         }
     }
 
+    /// Has the figures of each server kept from now on, as the house runs in real time. Returns what
+    /// reads them, from any thread. `names[i]` is the name of server i. If there is none, it is the
+    /// server's number.
+    ///
+    /// They are kept by [`next`](House::next) and [`done`](House::done), and so by
+    /// [`Realtime`](crate::realtime::Realtime). A job that was accepted before counts from the first
+    /// question on.
+    #[must_use]
+    pub fn live(&mut self, names: &[&str]) -> Live {
+        let keeper = Keeper::new(&self.rates, self.backlog, names);
+        self.keeper.insert(keeper).live()
+    }
+
     /// Takes a reading of its host's clock, and returns what the host does next. In this order:
     ///
     /// - The unit that was being done ends. Its server is charged for the time since the last
@@ -389,6 +411,9 @@ impl<T> House<T> {
         let (time, took) = (nanos(time), took.map(nanos));
         let next = certain(ffi::next(&mut self.handle, &mut pacer.own, time, took));
         pacer.taken = next.taken as usize; // at most one of each server
+        if let Some(keeper) = &mut self.keeper {
+            keeper.asked(&self.handle, ffi::counts(&pacer.own).charged, time, &next);
+        }
         if next.taken > 0 {
             self.ring_senders();
         }
@@ -423,6 +448,9 @@ impl<T> House<T> {
     pub(crate) fn end(&mut self, pacer: &mut Pacer, time: Duration, took: Option<Duration>) {
         let (time, took) = (nanos(time), took.map(nanos));
         certain(ffi::done(&mut self.handle, &mut pacer.own, time, took));
+        if let Some(keeper) = &mut self.keeper {
+            keeper.done(ffi::counts(&pacer.own).charged, time);
+        }
     }
 
     /// Takes the next message of one server, if there is one and room for it. What is not taken stays in its ring.

@@ -54,6 +54,7 @@ mod error;
 mod ffi;
 mod house;
 mod job;
+pub mod live;
 mod pacer;
 mod plan;
 pub mod realtime;

@@ -106,6 +106,8 @@ impl Plan {
             let (bell, doer) = (Arc::clone(&bell), Arc::clone(&doer));
             clients.push(Client::new(handle, shared, bell, doer, server));
         }
-        Ok((House::new(house, tokens, bell, doer), clients))
+        let rates = Arc::from(self.servers.as_slice());
+        let house = House::new(house, tokens, bell, doer, rates, backlog);
+        Ok((house, clients))
     }
 }

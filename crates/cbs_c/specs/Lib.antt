@@ -1,3 +1,4 @@
+pub mod Live
 pub mod Openings
 pub mod Paces
 pub mod Statuses

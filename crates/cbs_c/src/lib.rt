@@ -6,6 +6,7 @@
 mod client;
 mod handles;
 mod house;
+mod live;
 mod pace;
 mod status;
 mod values;

@@ -1,6 +1,6 @@
 //! The values that the calls on a house write.
 
-ghost use Rattle.std.specs.Prelude.{◌≡◌, ◌%◌, ◌/◌, ◌^◌};
+ghost use Rattle.std.specs.Prelude.{◌≡◌, ◌+◌, ◌*◌, ◌%◌, ◌/◌, ◌^◌};
 ghost use Rattle.cbs_c.specs.Values.{unit_shown, turn_shown, view_shown, poll_kind};
 
 use cbs_core::{Ran, ServerView};
@@ -103,6 +103,13 @@ pub(crate) fn high(number: u128) -> u64
     ensures { result ≡ number / 2 ^ 64 }
 {
     (number >> 64) as u64
+}
+
+/// Returns the number of these lower and upper 64 bits.
+pub(crate) fn wide(low: u64, high: u64) -> u128
+    ensures { result ≡ low + high * 2 ^ 64 }
+{
+    u128::from(low) + (u128::from(high) << 64)
 }
 
 /// Returns the view of a server for C.

@@ -7,6 +7,7 @@ mod charges;
 mod closing;
 mod collecting;
 mod errors;
+mod figures;
 mod handing;
 mod handles;
 mod in_time;

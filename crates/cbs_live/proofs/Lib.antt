@@ -1,0 +1,4 @@
+pub mod Powers
+pub mod Added
+pub mod Below
+pub mod Rings

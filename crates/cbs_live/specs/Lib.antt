@@ -1,0 +1,3 @@
+pub mod Spreads
+pub mod Late
+pub mod Figures
