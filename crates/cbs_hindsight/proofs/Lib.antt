@@ -1,0 +1,4 @@
+mod CutLists
+mod Cuts
+mod Examples
+pub mod Hindsight
