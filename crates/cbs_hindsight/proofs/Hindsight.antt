@@ -2,6 +2,8 @@
 use Rattle.std.proofs.Common.{◌≡◌, ℕ, zero, suc, ◌+◌, ◌-◌, ◌≤◌, ◌<◌, true, false, eqb, leb, ltb, List, [], ◌∷◌, ◌++◌, length, map, get_or, refl, ap, arith, inl, inr, sym, ◌∙◌, subst, Option, Some, None}
 use Rattle.std.specs.Prelude.{if◌then◌else◌}
 use Rattle.std.specs.List.{AllByRecursion}
+use Rattle.std.specs.Option.{is_some, is_none}
+use Rattle.cbs_steps.specs.Laws.{account_in}
 use Rattle.std.proofs.lemmas.Bool.{cases_Bool}
 use Rattle.std.proofs.lemmas.Bool.Decides.{nat_tests}
 use Rattle.cbs_job.specs.Work.{Meaning, Lowers, whole}
@@ -11,6 +13,7 @@ use Rattle.cbs_lists.proofs.Lists.{length-changed_at, changed_elsewhere}
 use Rattle.cbs_steps.specs.Accounts.{Account, need, finished, new_account, no_account, account_with_job, account_with_charge, account_with_close}
 use Rattle.cbs_steps.specs.Choice.{chosen_among}
 use Rattle.cbs_steps.specs.Faces.{ranks, submit_refusal, close_refusal}
+use Rattle.cbs_steps.specs.History.{after_run}
 use Rattle.cbs_steps.specs.History.{World, Setup, History, account, faces, chosen, tick, ticks, start, runner, after_submit, after_advance, after_closing, after_charging, charge_refusal, let_go, next, after}
 use Rattle.cbs_steps.specs.History.{unit_reply, run_reply, reply_to}
 use Rattle.cbs_steps.specs.declared.error.CoreError.{CoreError}
@@ -21,9 +24,10 @@ use Rattle.cbs_steps.specs.declared.reply.Reply.TheVariants as reply
 use Rattle.cbs_steps.specs.declared.step.Step.{Step}
 use Rattle.cbs_steps.specs.declared.step.Step.TheVariants.{Submit, Run, Advance, Close, Charge}
 use Rattle.cbs_steps.proofs.Ends.{ran_of}
-use Rattle.cbs_steps.proofs.FinishedJobs.{count_done_within, count_done_beyond}
+use Rattle.cbs_steps.proofs.FinishedJobs.{count_done_within, count_done_beyond, count_done-is}
 use Rattle.cbs_steps.proofs.Running.{replenished_account, loose_account}
-use Rattle.cbs_hindsight.specs.Hindsight.{Ending, IsCut, HasCut, step_cut, steps_cut, replies, IsBeside, completion_cut, EndsEarly, KeepsHindsight}
+use Rattle.cbs_hindsight.specs.Hindsight.{IsAtUnit}
+use Rattle.cbs_hindsight.specs.Hindsight.{Ending, IsCut, HasCut, step_cut, steps_cut, replies, does_nothing, effective_steps, KeepsEffective, IsBeside, completion_cut, EndsEarly, KeepsHindsight}
 use Rattle.cbs_hindsight.proofs.CutLists.{changed_none, changed_get, kept_at, seen_here, need_cut, done-ge}
 use Rattle.cbs_hindsight.proofs.Cuts.{IsEarly, IsUnit, early_before, grown_next, unit_is, chosen_active, chosen_within, shorter, cut_of, finished_cut, faces_cut, step_made, step_told, beside_made, beside_told}
 
@@ -271,6 +275,22 @@ module _ {W : Type 0} (work : Meaning W) (cut : ℕ → W → W) (law : IsCut wo
         rw (same_world K all, here) (let g = done-ge work.left xs b.got (e.seq + 1) within (omega arith) in omega arith)
 
 module _ {W : Type 0} (work : Meaning W) where
+  -- a step that does nothing leaves the world
+  nothing : (backlog : ℕ) (w : World W) (x : Step W) → does_nothing work backlog w x ≡ true → next work backlog w x ≡ w
+  nothing backlog w (Submit s job) e = go (submit_refusal backlog (faces work w) s) e
+    where
+      go : (o : Option CoreError) → is_some o ≡ true → after_submit work w s job o ≡ w
+      go None e = cc
+      go (Some r) e = refl
+  nothing backlog w Run e = go (runner work w) e
+    where
+      go : (o : Option ℕ) → is_none o ≡ true → after_run w o ≡ w
+      go None e = refl
+      go (Some s) e = cc
+  nothing backlog w (Advance n) e = cc
+  nothing backlog w (Close s) e = cc
+  nothing backlog w (Charge s n) e = cc
+
   -- so a job ends early, whatever the way to make it shorter
   pub hindsight_kept : (N : History W) → KeepsHindsight work N
   hindsight_kept N = λ cut law K M s k at.
@@ -297,4 +317,50 @@ module _ {W : Type 0} (work : Meaning W) where
             replies = told_all work cut law e setup M gives last K all
                 ∙ ap (λ xs. changed_at (λ _. reply.Ran (ran.Done (record { server = s; seq = k; result = get_or (map (λ v. whole work (cut e.units v)) xs) k 0 })))
                 (replies work setup (K ++ Run ∷ M)) (length K)) (sym jobs);
+          }
+
+  -- the steps without those that did nothing lead to the same world
+  pub effective_kept : (N : History W) → KeepsEffective work N
+  effective_kept N = go N.setup N.steps
+    where
+      go : (setup : Setup) (M : List (Step W)) → after work setup (effective_steps work setup M) ≡ after work setup M
+      go setup [] = refl
+      go setup (x ∷ M) = elim (cases_Bool (does_nothing work setup.backlog (after work setup M) x)) [
+        | inl t ↦ rw t (go setup M ∙ sym (nothing setup.backlog (after work setup M) x t))
+        | inr f ↦ rw f (ap (λ v. next work setup.backlog v x) (go setup M))
+      ]
+
+  -- what is known of a server after a unit of its job k, which was not the job's last
+  pub record IsBegun (a : Account W) (k : ℕ) : Type 0 where
+    pub first : finished work a ≡ k
+    pub there : k < length a.accepted
+    pub begun : need work a k < a.got
+    pub short : a.got < need work a (k + 1)
+
+  -- so it is at the end of such a history
+  pub begun_at : (N : History W) (K M : List (Step W)) (s k : ℕ) → IsAtUnit work N K M s k → IsBegun (account_in work N s) k
+  begun_at N K M s k at = subst (λ L. IsBegun (account_in work (record { setup = N.setup; steps = L }) s) k) (sym at.steps) (go N.setup at.unit at.beside)
+    where
+      go : (setup : Setup) → reply_to work setup.backlog (after work setup M) Run ≡ reply.Ran (ran.Unit s k) → AllByRecursion (IsBeside s) K
+          → IsBegun (account (after work setup (K ++ Run ∷ M)).accounts s) k
+      go setup unit all =
+          let w = after work setup M in
+          let a = account w.accounts s in
+          let b = account (after work setup (K ++ Run ∷ M)).accounts s in
+          let gives = gives_unit work w s k (chosen work w) refl (ap ran_of unit) in
+          let is = unit_after work setup K M s k gives all in
+          let jobs = is.jobs in
+          let got = is.got in
+          let first = gives.first in
+          let active = chosen_active work w s gives.chosen in
+          let begun : need work a k ≤ a.got = rw gives.first at (count_done_within work.left a.accepted a.got) in
+          let same : need work b k ≡ need work a k = rw jobs refl in
+          let next : need work b (k + 1) ≡ need work a (k + 1) = rw jobs refl in
+          let count : length b.accepted ≡ length a.accepted = ap length jobs in
+          let short : b.got < need work b (k + 1) = let m = gives.more in omega arith in
+          record {
+            first = count_done-is work.left b.accepted b.got k (omega arith) (omega arith) (λ _. short);
+            there = omega arith;
+            begun = omega arith;
+            short = short;
           }

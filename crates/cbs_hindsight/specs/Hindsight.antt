@@ -1,11 +1,13 @@
 -- A job that ends early, in hindsight: with a shorter job in its place, the same steps lead to the same world.
 use Rattle.std.specs.Prelude.{◌≡◌, ◌≢◌, ℕ, ◌-◌, ◌≤◌, ◌<◌, Bool, false, ◌&&◌, eqb, if◌then◌else◌, List, [], ◌∷◌, ◌++◌, length, map, get_or}
 use Rattle.std.specs.List.{AllByRecursion}
+use Rattle.std.specs.Option.{is_some, is_none}
 use Rattle.cbs_job.specs.Work.{Meaning, whole}
 use Rattle.cbs_job.specs.declared.completion.Completion.{Completion}
 use Rattle.cbs_lists.specs.Lists.{changed_at}
 use Rattle.cbs_steps.specs.Accounts.{Account, need, finished}
-use Rattle.cbs_steps.specs.History.{World, Setup, History, after, world_after, reply_to, reply_in}
+use Rattle.cbs_steps.specs.Faces.{submit_refusal}
+use Rattle.cbs_steps.specs.History.{World, Setup, History, faces, runner, after, world_after, reply_to, reply_in}
 use Rattle.cbs_steps.specs.Laws.{account_in}
 use Rattle.cbs_steps.specs.Promises.{when}
 use Rattle.cbs_steps.specs.declared.reply.Ran.TheVariants as ran
@@ -62,6 +64,22 @@ module _ {W : Type 0} where
   replies work setup [] = []
   replies work setup (x ∷ M) = reply_to work setup.backlog (after work setup M) x ∷ replies work setup M
 
+  -- whether the step x, made in the world w, does nothing: a submit that is refused, or a Run that runs no unit
+  abbrev pub does_nothing : Meaning W → ℕ → World W → Step W → Bool
+  does_nothing work backlog w (Submit s job) = is_some (submit_refusal backlog (faces work w) s)
+  does_nothing work backlog w Run = is_none (runner work w)
+  does_nothing work backlog w x = false
+
+  -- the steps without those that did nothing
+  abbrev pub effective_steps : Meaning W → Setup → List (Step W) → List (Step W)
+  effective_steps work setup [] = []
+  effective_steps work setup (x ∷ M) =
+      if does_nothing work setup.backlog (after work setup M) x then effective_steps work setup M else x ∷ effective_steps work setup M
+
+  -- the history without them
+  abbrev pub effective : Meaning W → History W → History W
+  effective work N = record N { steps = effective_steps work N.setup N.steps }
+
   -- the step neither runs a unit nor hands a job to server s
   abbrev pub IsBeside : ℕ → Step W → Type 0
   IsBeside s (Submit t job) = t ≢ s
@@ -76,6 +94,13 @@ module _ {W : Type 0} where
     pub steps : N.steps ≡ K ++ Run ∷ M
     pub unit : reply_in work (when N M) Run ≡ reply.Ran (ran.Unit s k)
     pub beside : AllByRecursion (IsBeside s) K
+
+  -- so it is of some job of server s
+  pub record EndsWithUnit (work : Meaning W) (N : History W) (s : ℕ) : Type 0 where
+    pub later : List (Step W)
+    pub earlier : List (Step W)
+    pub seq : ℕ
+    pub at : IsAtUnit work N later earlier s seq
 
   -- the end of job k of server s, if it ends after N
   abbrev pub ending : Meaning W → History W → ℕ → ℕ → Ending
@@ -98,3 +123,7 @@ module _ {W : Type 0} where
   -- so does each job that got the last unit, if it is not finished by then, whatever the way to make it shorter
   abbrev pub KeepsHindsight : Meaning W → History W → Type 0
   KeepsHindsight work N = (cut : ℕ → W → W) → IsCut work cut → (K M : List (Step W)) (s k : ℕ) → IsAtUnit work N K M s k → EndsEarly work cut N K s k
+
+  -- the steps without those that did nothing lead to the same world
+  abbrev pub KeepsEffective : Meaning W → History W → Type 0
+  KeepsEffective work N = world_after work (effective work N) ≡ world_after work N
