@@ -1,5 +1,5 @@
 -- Lists of which one element is changed, and how many of them some units suffice for.
-use Rattle.std.proofs.Common.{◌≡◌, ◌≢◌, ℕ, zero, suc, ◌+◌, ◌≤◌, ◌<◌, List, [], ◌∷◌, ◌++◌, length, take, map, get_or, refl, ap, arith, inl, inr, sym}
+use Rattle.std.proofs.Common.{◌≡◌, ◌≢◌, ℕ, zero, suc, ◌+◌, ◌≤◌, ◌<◌, List, [], ◌∷◌, ◌++◌, length, take, drop, map, get_or, refl, ap, arith, inl, inr, sym}
 use Rattle.std.specs.List.{sum_by, slice_get}
 use Rattle.std.proofs.lemmas.List.{take-append-le}
 use Rattle.std.proofs.lemmas.Bool.{cases_lt}
@@ -21,6 +21,13 @@ module _ {X : Type 0} where
   take-changed f [] i (suc j) h = refl
   take-changed f (x ∷ xs) zero (suc j) h = absurd (omega arith)
   take-changed f (x ∷ xs) (suc i) (suc j) h = ap (λ ys. x ∷ ys) (take-changed f xs i j (omega arith))
+
+  -- and those after it
+  pub drop-changed : (f : X → X) (xs : List X) (i j : ℕ) → i < j → drop j (changed_at f xs i) ≡ drop j xs
+  drop-changed f xs i zero h = absurd (omega arith)
+  drop-changed f [] i (suc j) h = refl
+  drop-changed f (x ∷ xs) zero (suc j) h = refl
+  drop-changed f (x ∷ xs) (suc i) (suc j) h = drop-changed f xs i j (omega arith)
 
   -- one element more, which is not the changed one
   pub changed_behind : (f : X → X) (xs : List X) (y : X) (i : ℕ) → length xs ≢ i → changed_at f (xs ++ y ∷ []) i ≡ changed_at f xs i ++ y ∷ []

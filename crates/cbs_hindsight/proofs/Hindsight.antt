@@ -13,7 +13,8 @@ use Rattle.cbs_lists.proofs.Lists.{length-changed_at, changed_elsewhere}
 use Rattle.cbs_steps.specs.Accounts.{Account, need, finished, new_account, no_account, account_with_job, account_with_charge, account_with_close}
 use Rattle.cbs_steps.specs.Choice.{chosen_among}
 use Rattle.cbs_steps.specs.Faces.{ranks, submit_refusal, close_refusal}
-use Rattle.cbs_steps.specs.History.{after_run}
+use Rattle.cbs_steps.specs.History.{after_run, ◌⊕◌, reply_in, world_after}
+use Rattle.std.proofs.Common.{◌⊎◌}
 use Rattle.cbs_steps.specs.History.{World, Setup, History, account, faces, chosen, tick, ticks, start, runner, after_submit, after_advance, after_closing, after_charging, charge_refusal, let_go, next, after}
 use Rattle.cbs_steps.specs.History.{unit_reply, run_reply, reply_to}
 use Rattle.cbs_steps.specs.declared.error.CoreError.{CoreError}
@@ -27,7 +28,7 @@ use Rattle.cbs_steps.proofs.Ends.{ran_of}
 use Rattle.cbs_steps.proofs.FinishedJobs.{count_done_within, count_done_beyond, count_done-is}
 use Rattle.cbs_steps.proofs.Running.{replenished_account, loose_account}
 use Rattle.cbs_hindsight.specs.Hindsight.{IsAtUnit}
-use Rattle.cbs_hindsight.specs.Hindsight.{Ending, IsCut, HasCut, step_cut, steps_cut, replies, does_nothing, effective_steps, KeepsEffective, IsBeside, completion_cut, EndsEarly, KeepsHindsight}
+use Rattle.cbs_hindsight.specs.Hindsight.{Ending, IsCut, HasCut, step_cut, steps_cut, replies, does_nothing, effective_steps, effective, KeepsEffective, EndsWithUnit, IsBeside, completion_cut, EndsEarly, KeepsHindsight}
 use Rattle.cbs_hindsight.proofs.CutLists.{changed_none, changed_get, kept_at, seen_here, need_cut, done-ge}
 use Rattle.cbs_hindsight.proofs.Cuts.{IsEarly, IsUnit, early_before, grown_next, unit_is, chosen_active, chosen_within, shorter, cut_of, finished_cut, faces_cut, step_made, step_told, beside_made, beside_told}
 
@@ -364,3 +365,32 @@ module _ {W : Type 0} (work : Meaning W) where
             begun = omega arith;
             short = short;
           }
+
+  -- the step x after M does nothing, or it is beside every server
+  abbrev pub IsStill : History W → Step W → Type 0
+  IsStill M x = (does_nothing work M.setup.backlog (world_after work M) x ≡ true) ⊎ ((s : ℕ) → IsBeside s x)
+
+  -- a history that ends with a unit still does so after a step beside its server, or one that did nothing
+  pub ends_beside : (M : History W) (x : Step W) (s : ℕ) → IsBeside s x → EndsWithUnit work (effective work M) s → EndsWithUnit work (effective work (M ⊕ x)) s
+  ends_beside M x s beside h = elim (cases_Bool (does_nothing work M.setup.backlog (world_after work M) x)) [
+    | inl t ↦ rw t h
+    | inr f ↦ rw f record {
+        later = x ∷ h.later;
+        earlier = h.earlier;
+        seq = h.seq;
+        at = record { steps = ap (λ L. x ∷ L) h.at.steps; unit = h.at.unit; beside = (beside, h.at.beside) };
+      }
+  ]
+
+  pub ends_still : (M : History W) (x : Step W) (s : ℕ) → IsStill M x → EndsWithUnit work (effective work M) s → EndsWithUnit work (effective work (M ⊕ x)) s
+  ends_still M x s still h = elim still [ inl t ↦ rw t h | inr all ↦ ends_beside M x s (all s) h ]
+
+  -- a Run of a unit of s that is not the last of its job ends the history so
+  pub ends_unit : (M : History W) (s k : ℕ) → runner work (world_after work M) ≡ Some s → reply_in work M Run ≡ reply.Ran (ran.Unit s k)
+      → EndsWithUnit work (effective work (M ⊕ Run)) s
+  ends_unit M s k runs told = rw runs record {
+    later = [];
+    earlier = effective_steps work M.setup M.steps;
+    seq = k;
+    at = record { steps = refl; unit = ap (λ w. reply_to work M.setup.backlog w Run) (effective_kept M) ∙ told; beside = tt };
+  }

@@ -1,4 +1,4 @@
-mod CutLists
+pub mod CutLists
 mod Cuts
 mod Examples
 pub mod Hindsight
