@@ -432,6 +432,16 @@ module _ {W : Type 0} {work : Meaning W} {core : CoreHeld W} (ok : IsCore work c
       let same : eqb s s ≡ true = grind (arith, nat_tests) in
       rw (moved, same) refl
 
+  -- after a charge of some ticks of a server that runs, the same server runs
+  pub charged_may : (s n for_unit : ℕ) (faces : List Face) (queues : List (List W)) (rooms : List ℕ) → is_running core s ≡ true → 0 < n → (t : ℕ)
+      → may_end (record { backlog = core.backlog; clock = core.clock + n; last = record core.last { charged = for_unit; charged_to = core.clock + n }; faces = faces; queues = queues; rooms = rooms }) t
+      ≡ may_end core t
+  charged_may s n for_unit faces queues rooms runs some t =
+      let a = ok.last.advanced in
+      let moved : eqb core.last.advanced_to (core.clock + n) ≡ false = grind (arith, nat_tests) in
+      let before = (running_server core s runs).0 in
+      rw (moved, before) refl
+
 -- if the second is false, not both hold
 pub right_false : (b : Bool) → (b && false) ≡ false
 right_false true = refl

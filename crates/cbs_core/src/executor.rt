@@ -178,6 +178,8 @@ impl<W: Work, A: Allocator> Core<W, A> {
         ensures job { IfOk result (λ number. TakesJob task number (held_at self.old server)
             (held_at self.new server)
             × OthersSame server self.old self.new) }
+        ensures ends { OnOk result ((s : ℕ) → may_end self.new s
+            ≡ (may_end self.old s && not (eqb self.old.last.server server))) }
         ensures unchanged { OnErr result (self.new ≡ record self.old { rooms = self.new.rooms }) }
         ensures kept { OnErr result (KeepsRoom self.old.rooms self.new.rooms) }
     {
@@ -349,6 +351,7 @@ impl<W: Work, A: Allocator> Core<W, A> {
         ensures makes { Makes W.meaning self.old self.new (Step.Charge server ticks)
             (charged result) }
         ensures jobs { AllSame self.old self.new }
+        ensures ends { (s : ℕ) → may_end self.new s ≡ may_end self.old s }
         ensures unchanged { OnErr result (self.new ≡ self.old) }
         ensures kept { KeepsRoom self.old.rooms self.new.rooms }
     {
@@ -375,6 +378,7 @@ impl<W: Work, A: Allocator> Core<W, A> {
         requires clock { self.old.clock + ticks ≤ LIMIT }
         ensures makes { Makes W.meaning self.old self.new (Step.Charge server ticks) Reply.Charged }
         ensures jobs { AllSame self.old self.new }
+        ensures ends { (s : ℕ) → may_end self.new s ≡ may_end self.old s }
         ensures kept { KeepsRoom self.old.rooms self.new.rooms }
     {
         let for_unit = self.last.charge(self.clock, ticks);
@@ -392,6 +396,7 @@ impl<W: Work, A: Allocator> Core<W, A> {
         ensures closed { OnOk result (ClosesServer (held_at self.old server)
             (held_at self.new server)
             × OthersSame server self.old self.new) }
+        ensures ends { (s : ℕ) → may_end self.new s ≡ may_end self.old s }
         ensures succeeds { IsOpen self.old server → IsOk result }
         ensures unchanged { OnErr result (self.new ≡ self.old) }
         ensures kept { KeepsRoom self.old.rooms self.new.rooms }
@@ -410,6 +415,7 @@ impl<W: Work, A: Allocator> Core<W, A> {
         ensures makes { Makes W.meaning self.old self.new (Step.Close server) Reply.Closed }
         ensures closed { ClosesServer (held_at self.old server) (held_at self.new server)
             × OthersSame server self.old self.new }
+        ensures ends { (s : ℕ) → may_end self.new s ≡ may_end self.old s }
         ensures kept { KeepsRoom self.old.rooms self.new.rooms }
     {
         self.servers.close(server);
