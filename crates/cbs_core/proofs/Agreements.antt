@@ -1,5 +1,5 @@
 -- What agreement with a history becomes, through each step.
-use Rattle.std.proofs.Common.{◌≡◌, ℕ, ◌+◌, ◌-◌, ◌≤◌, ◌<◌, List, [], ◌∷◌, ◌++◌, length, map, replicate, refl, ap, sym, ◌∙◌, arith, true, false, Bool}
+use Rattle.std.proofs.Common.{◌≡◌, ℕ, ◌+◌, ◌-◌, ◌≤◌, ◌<◌, List, [], ◌∷◌, ◌++◌, length, map, replicate, refl, ap, sym, ◌∙◌, arith, true, false, Bool, not, drop, subst, inl}
 use Rattle.std.proofs.Common.{leb, ltb, eqb, cond, is_some, Option, Some, None}
 use Rattle.std.proofs.lemmas.Bool.Decides.{nat_tests}
 use Rattle.std.proofs.lemmas.List.{length-map, get_or_past}
@@ -10,14 +10,15 @@ use Rattle.cbs_rules.specs.Rules.{clock_end, Terms}
 use Rattle.cbs_lists.specs.Lists.{changed_at}
 use Rattle.cbs_steps.specs.Choice.{chosen_among}
 use Rattle.cbs_steps.specs.Faces.{Face, new_face, face_at, ranks, submit_refusal, close_refusal, with_job, with_unit, with_charge, with_replenishment, with_close}
-use Rattle.cbs_steps.specs.Accounts.{face_of, new_account, no_account, account_with_job, account_with_unit, account_with_charge, account_with_replenishment, account_with_close, account_let_go}
+use Rattle.cbs_steps.specs.Accounts.{need, face_of, new_account, no_account, account_with_job, account_with_unit, account_with_charge, account_with_replenishment, account_with_close, account_let_go}
 use Rattle.cbs_steps.specs.History.{World, History, ◌⊕◌, account, faces, chosen, start, after_submit, after_run, after_closing, charge_refusal, let_go, world_after}
 use Rattle.cbs_steps.specs.History.{run_reply, submit_reply, close_reply, reply_in}
-use Rattle.cbs_core.specs.Agreement.{AgreesJobs, AgreesWorld, Agrees}
+use Rattle.cbs_core.specs.Agreement.{AgreesJobs, AgreesWorld, Agrees, ended}
+use Rattle.cbs_steps.specs.Laws.{account_in}
 use Rattle.cbs_steps.specs.Promises.{promised_by, promised}
 use Rattle.cbs_steps.specs.Replies.{IsAccepted}
-use Rattle.cbs_core.specs.Held.{CoreHeld, is_running, charged_at, ran_of}
-use Rattle.cbs_core.specs.Invariant.{IsLastUnit}
+use Rattle.cbs_core.specs.Held.{CoreHeld, is_running, may_end, charged_at, ran_of, last_joined, with_job_ended}
+use Rattle.cbs_core.specs.Invariant.{IsLastUnit, IsCore}
 use Rattle.cbs_queues.specs.Queues.{list_at, jobs_run, result_run}
 use Rattle.cbs_steps.specs.declared.error.CoreError.{CoreError}
 use Rattle.cbs_steps.specs.declared.error.CoreError.TheVariants as error
@@ -25,7 +26,10 @@ use Rattle.cbs_steps.specs.declared.reply.Ran.{Ran}
 use Rattle.cbs_steps.specs.declared.reply.Ran.TheVariants as ran
 use Rattle.cbs_steps.specs.declared.reply.Reply.TheVariants as reply
 use Rattle.cbs_steps.specs.declared.step.Step.TheVariants.{Submit, Run, Advance, Close, Charge}
-use Rattle.cbs_core.proofs.Cores.{MayRun}
+use Rattle.cbs_core.proofs.Cores.{MayRun, left_true, may_end_there, backlog_at}
+use Rattle.cbs_core.proofs.EndedJobs.{ended_jobs, ended_face}
+use Rattle.cbs_hindsight.specs.Hindsight.{IsCut, EndsWithUnit, effective, ending, hindsight, account_cut, world_cut}
+use Rattle.cbs_hindsight.proofs.Hindsight.{IsStill, IsBegun, begun_at, hindsight_kept, effective_kept, ends_beside, ends_unit}
 use Rattle.cbs_steps.proofs.Histories.{account_face, let_go_faces}
 use Rattle.cbs_core.proofs.Running.{running_server}
 use Rattle.cbs_steps.proofs.Running.{none_runs, runs_changed, latest_changed, runs_run, latest_run, advance_jumps, runs_jumped, charge_jumps, charge_none, charge_refused, runs_charged, latest_charged, refused_stranger, refused_idle, refused_late, not_refused}
@@ -43,7 +47,7 @@ module _ {W : Type 0} (work : Meaning W) where
   -- a new core, with the faces and empty queues of new servers, agrees with the start
   pub start_agrees : (terms : List Terms) (backlog n : ℕ) (shown : List Face) (queues : List (List W)) (rooms : List ℕ) → shown ≡ map new_face terms
       → n ≡ length shown → queues ≡ replicate n []
-      → AgreesWorld work (record { backlog = backlog; clock = 0; last = record { server = 0; advanced_to = 0; charged = 0; charged_to = 0 }; faces = shown; queues = queues; rooms = rooms }) backlog
+      → AgreesWorld work (record { backlog = backlog; clock = 0; last = record { server = 0; advanced_to = 0; charged = 0; charged_to = 0; unfinished = false }; faces = shown; queues = queues; rooms = rooms }) backlog
       (start (record { servers = terms; backlog = backlog }))
   start_agrees terms backlog n shown queues rooms e count empty = record {
     same_backlog = refl;
@@ -64,6 +68,10 @@ module _ {W : Type 0} {work : Meaning W} {core held : CoreHeld W} {M : History W
   -- the core as the call sees it agrees too
   agrees : AgreesWorld work core M.setup.backlog w
   agrees = rw view before.world
+
+  -- and the history ends with a unit, if the core says so
+  ends : core.last.unfinished ≡ true → EndsWithUnit work (effective work M) core.last.server
+  ends = rw view before.unit
 
   -- the choice among the faces held is the chosen server
   pub choice_agrees : chosen_among (ranks core.faces) ≡ chosen work w
@@ -106,6 +114,14 @@ module _ {W : Type 0} {work : Meaning W} {core held : CoreHeld W} {M : History W
   pub next_late : clock_end ≤ core.clock → world_after work (M ⊕ Run) ≡ w
   next_late late = let n : ltb w.now clock_end ≡ false = let c = agrees.clock in grind (arith, nat_tests) in rw n
 
+  -- the run does nothing then
+  pub late_still : clock_end ≤ core.clock → IsStill work M Run
+  late_still late = let n : ltb w.now clock_end ≡ false = let c = agrees.clock in grind (arith, nat_tests) in inl (rw n refl)
+
+  -- nor if no server is chosen
+  pub idle_still : None ≡ chosen_among (ranks core.faces) → IsStill work M Run
+  idle_still e = let n : chosen work w ≡ None = sym (e ∙ choice_agrees) in inl (rw (n, cond_same (ltb w.now clock_end)) refl)
+
   -- if no server is chosen, a run leaves the world as it is
   pub idle_next : None ≡ chosen_among (ranks core.faces) → world_after work (M ⊕ Run) ≡ w
   idle_next e = let n : chosen work w ≡ None = sym (e ∙ choice_agrees) in rw (n, cond_same (ltb w.now clock_end))
@@ -137,10 +153,11 @@ module _ {W : Type 0} {work : Meaning W} {core held : CoreHeld W} {M : History W
         rw n (ap (after_run w) (sym (e ∙ choice_agrees)))
 
     -- after the unit and the replenishment the core agrees with one run more
-    pub unit_agrees : {shown : List Face} {queues : List (List W)} {rooms : List ℕ}
+    pub unit_agrees : {shown : List Face} {queues : List (List W)} {rooms : List ℕ} (left : Bool)
+        → (left ≡ true → result_run work (list_at core.queues s) ≡ None)
         → shown ≡ map (with_replenishment (core.clock + 1)) (changed_at (with_unit done) core.faces s) → queues ≡ changed_at (jobs_run work) core.queues s
-        → Agrees work (record { backlog = core.backlog; clock = core.clock + 1; last = record core.last { server = s }; faces = shown; queues = queues; rooms = rooms }) (M ⊕ Run)
-    unit_agrees is run =
+        → Agrees work (record { backlog = core.backlog; clock = core.clock + 1; last = record core.last { server = s; unfinished = left }; faces = shown; queues = queues; rooms = rooms }) (M ⊕ Run)
+    unit_agrees left more is run =
         let loose = let_go w in
         let loose_jobs : AllZip (AgreesJobs work) core.queues loose.accounts = AllZip-map (AgreesJobs work) account_let_go core.queues w.accounts agrees.jobs
         (λ jobs a here. record { results = here.results; lefts = here.lefts }) in
@@ -168,11 +185,19 @@ module _ {W : Type 0} {work : Meaning W} {core held : CoreHeld W} {M : History W
                 let same : s ≡ t = let y : eqb s t ≡ true = rw moved at running in grind (arith, nat_tests) in
                 rw (← same, paid) (latest_run w s place);
           };
+          unit = λ u.
+              let n : ltb w.now clock_end ≡ true = let c = agrees.clock in let k = may.early in grind (arith, nat_tests) in
+              let q = (face_at core.faces s).finished in
+              ends_unit work M s q (rw n (sym (e ∙ choice_agrees))) (sym (unit_answered (ran.Unit s q) (rw (more u) refl)));
         }
 
   -- an advance by 0 leaves the world as it is
   pub advance_none : (n : ℕ) → n ≡ 0 → world_after work (M ⊕ Advance n) ≡ w
   advance_none n none = rw (none, cond_same (leb (w.now + 0) clock_end))
+
+  -- an advance past the clock's end is refused, and leaves the world as it is
+  pub advance_late : (n : ℕ) → clock_end - core.clock < n → (reply.Refused error.ClockEnd ≡ reply_in work M (Advance n)) × (world_after work (M ⊕ Advance n) ≡ w)
+  advance_late n late = let f : leb (w.now + n) clock_end ≡ false = let c = agrees.clock in grind (arith, nat_tests) in rw f (refl, refl)
 
   -- after a jump by n ticks that the clock's end allows, the core agrees with one advance more
   pub advance_agrees : (n : ℕ) {shown : List Face} {rooms : List ℕ} → n ≤ clock_end - core.clock → 0 < n
@@ -192,12 +217,17 @@ module _ {W : Type 0} {work : Meaning W} {core held : CoreHeld W} {M : History W
           runs = λ s. let same : eqb (core.clock + n) (core.clock + n) ≡ true = grind (arith, nat_tests) in rw same (runs_jumped w n s);
           latest = λ s running. let same : eqb (core.clock + n) (core.clock + n) ≡ true = grind (arith, nat_tests) in let none : false ≡ true = rw same at running in cc;
         };
+        unit = λ u. ends_beside work M (Advance n) core.last.server tt (ends u);
       }
 
   -- why a submit to s is refused, if it is
   pub same_refusal : (s : ℕ) (o : Option CoreError) → o ≡ submit_refusal core.backlog core.faces s
       → submit_refusal M.setup.backlog (faces work w) s ≡ o
   same_refusal s o e = sym (e ∙ rw (agrees.same_backlog, agrees.shown) refl)
+
+  -- a submit that is refused does nothing
+  pub refused_still : (s : ℕ) (job : W) (r : CoreError) → Some r ≡ submit_refusal core.backlog core.faces s → IsStill work M (Submit s job)
+  refused_still s job r e = inl (ap is_some (same_refusal s (Some r) e))
 
   -- a submit of a job to s, by why it is refused
   module _ (s : ℕ) (job : W) (o : Option CoreError) (e : o ≡ submit_refusal core.backlog core.faces s) where
@@ -222,7 +252,7 @@ module _ {W : Type 0} {work : Meaning W} {core held : CoreHeld W} {M : History W
     -- with the job after the others, the core agrees with one submit more
     pub submit_agrees : {shown : List Face} {queues : List (List W)} {rooms : List ℕ} → s < length core.faces
         → shown ≡ changed_at (with_job core.clock) core.faces s → queues ≡ changed_at (λ jobs. jobs ++ job ∷ []) core.queues s → 0 < work.left job
-        → Agrees work (record { backlog = core.backlog; clock = core.clock; last = core.last; faces = shown; queues = queues; rooms = rooms }) (M ⊕ Submit s job)
+        → Agrees work (record { backlog = core.backlog; clock = core.clock; last = last_joined core s; faces = shown; queues = queues; rooms = rooms }) (M ⊕ Submit s job)
     submit_agrees lt is joined some =
         let paid = paid_after work M.setup M.steps s in
         record {
@@ -238,6 +268,10 @@ module _ {W : Type 0} {work : Meaning W} {core held : CoreHeld W} {M : History W
             runs = λ t. runs_changed (account_with_job work w.now job) w.accounts s t (λ a. refl) ∙ agrees.runs t;
             latest = λ t running. latest_changed (account_with_job work w.now job) w.accounts s t (λ a. refl) ∙ agrees.latest t running;
           };
+          unit = λ u.
+              let was = left_true core.last.unfinished (not (eqb core.last.server s)) u in
+              let other : not (eqb core.last.server s) ≡ true = rw was at u in
+              ends_beside work M (Submit s job) core.last.server (λ q. grind (arith, nat_tests)) (ends was);
         }
 
   -- a close of s, by why it is refused
@@ -268,6 +302,7 @@ module _ {W : Type 0} {work : Meaning W} {core held : CoreHeld W} {M : History W
       runs = λ t. runs_changed account_with_close w.accounts s t (λ a. refl) ∙ agrees.runs t;
       latest = λ t running. latest_changed account_with_close w.accounts s t (λ a. refl) ∙ agrees.latest t running;
     };
+    unit = λ u. ends_beside work M (Close s) core.last.server tt (ends u);
   }
 
   -- a charge of n ticks of server s
@@ -331,4 +366,55 @@ module _ {W : Type 0} {work : Meaning W} {core held : CoreHeld W} {M : History W
                   let same : s ≡ t = let y : eqb core.last.server t ≡ true = rw moved at running in let z = runner.1 in grind (arith, nat_tests) in
                   rw (← same, paid) (latest_charged w s n place ∙ unit);
             };
+            unit = λ u. ends_beside work M (Charge s n) core.last.server tt (ends u);
           }
+
+  -- The server of the last unit, which runs, ends its job: the core agrees with the history in hindsight
+  module _ (ok : IsCore work core) (s : ℕ) (may : may_end core s ≡ true) (cut : ℕ → W → W) (law : IsCut work cut) where
+    -- the history without the steps that did nothing, and its unit
+    abbrev N : History W
+    N = effective work M
+
+    unit_of : EndsWithUnit work N s
+    unit_of =
+        let runs : is_running core s ≡ true = left_true (is_running core s) core.last.unfinished may in
+        rw (running_server core s runs).1 at (ends (rw runs at may))
+
+    abbrev k : ℕ
+    k = unit_of.seq
+
+    begun_there : IsBegun work (account_in work N s) k
+    begun_there = begun_at work N unit_of.later unit_of.earlier s k unit_of.at
+
+    -- the world in hindsight
+    world_is : world_after work (ended work cut s M) ≡ world_cut cut (ending work N s k) w
+    world_is =
+        ap (λ j. world_after work (hindsight work cut (ending work N s j) N)) begun_there.first
+        ∙ (hindsight_kept work N cut law unit_of.later unit_of.earlier s k unit_of.at).world
+        ∙ ap (world_cut cut (ending work N s k)) (effective_kept work M)
+
+    pub ended_agrees : {shown : List Face} {queues : List (List W)} {rooms : List ℕ} → shown ≡ changed_at with_job_ended core.faces s → queues ≡ changed_at (drop 1) core.queues s
+        → Agrees work (record { backlog = core.backlog; clock = core.clock; last = record core.last { unfinished = false }; faces = shown; queues = queues; rooms = rooms }) (ended work cut s M)
+    ended_agrees {shown} {queues} {rooms} is left =
+        let new : CoreHeld W = record { backlog = core.backlog; clock = core.clock; last = record core.last { unfinished = false }; faces = shown; queues = queues; rooms = rooms } in
+        let e = ending work N s k in
+        let lt = (may_end_there ok s may).0 in
+        let a = account w.accounts s in
+        let begun : IsBegun work a k = subst (λ (v : World W). IsBegun work (account v.accounts s) k) (effective_kept work M) begun_there in
+        let units : e.units ≡ a.got - need work a k = ap (λ (v : World W). (account v.accounts s).got - need work (account v.accounts s) k) (effective_kept work M) in
+        let last : need work a k + e.units ≡ a.got = let b = begun.begun in omega arith in
+        let all = (backlog_at ok s lt).unfinished in
+        let jobs = list_at core.queues s in
+        record {
+          world = subst (λ (v : World W). AgreesWorld work new M.setup.backlog v) (sym world_is) record {
+            same_backlog = agrees.same_backlog;
+            clock = agrees.clock;
+            shown = is ∙ ap (λ fs. changed_at with_job_ended fs s) agrees.shown ∙ sym (map-changed_at (face_of work) (account_cut cut e) with_job_ended w.accounts s no_account
+                (ended_face work cut law a k e.units begun last jobs (jobs_are s lt) all e refl refl));
+            jobs = rw left (AllZip-changed_at (AgreesJobs work) core.queues w.accounts s [] no_account (drop 1) (account_cut cut e) agrees.jobs (within_queues s lt)
+                (λ here. ended_jobs work cut law a k e.units begun last jobs here all e refl refl));
+            runs = λ t. runs_changed (account_cut cut e) w.accounts s t (λ b. refl) ∙ agrees.runs t;
+            latest = λ t running. latest_changed (account_cut cut e) w.accounts s t (λ b. refl) ∙ agrees.latest t running;
+          };
+          unit = λ u. cc;
+        }

@@ -15,6 +15,7 @@ module _ {W : Type 0} (work : Meaning W) where
   pub agrees_same : (old new : CoreHeld W) → new ≡ record old { rooms = new.rooms } → (M : History W) → Agrees work old M → Agrees work new M
   agrees_same old new e M agrees = rw e record {
     world = record { same_backlog = agrees.world.same_backlog; clock = agrees.world.clock; shown = agrees.world.shown; jobs = agrees.world.jobs; runs = agrees.world.runs; latest = agrees.world.latest };
+    unit = agrees.unit;
   }
 
   -- what is made of such a core was made of the one before

@@ -1,5 +1,5 @@
 -- What each core keeps, through each step.
-use Rattle.std.proofs.Common.{◌≡◌, ◌≢◌, ℕ, zero, suc, ◌+◌, ◌-◌, ◌*◌, ◌≤◌, ◌<◌, ◌^◌, true, List, [], ◌∷◌, ◌++◌, length, map, replicate, refl, ◌∙◌, ap, arith, eqb, inl}
+use Rattle.std.proofs.Common.{Bool, false, not, ◌&&◌, drop, length-drop, ◌≡◌, ◌≢◌, ℕ, zero, suc, ◌+◌, ◌-◌, ◌*◌, ◌≤◌, ◌<◌, ◌^◌, true, List, [], ◌∷◌, ◌++◌, length, map, replicate, refl, ◌∙◌, ap, arith, eqb, inl}
 use Rattle.std.proofs.Common.{inr, Some, None, sym, is_some, length-append}
 use Rattle.std.specs.Prelude.{slice_get, Result, IfOk, OnOk}
 use Rattle.std.proofs.lemmas.Bool.{cases_lt, cases_Bool}
@@ -17,7 +17,7 @@ use Rattle.cbs_steps.specs.Choice.{IsChoice}
 use Rattle.cbs_steps.specs.Faces.{Face, new_face, no_face, face_at, is_ready, backlog_of, reservations, ranks, with_job, with_unit, with_charge}
 use Rattle.cbs_steps.specs.Faces.{with_replenishment, with_close, submit_refusal, view_reply}
 use Rattle.cbs_steps.specs.Laws.{IsWithinBudget}
-use Rattle.cbs_core.specs.Held.{KeepsBudgets, CoreHeld, Accepts, is_running, charged_at}
+use Rattle.cbs_core.specs.Held.{KeepsBudgets, CoreHeld, Accepts, is_running, charged_at, may_end, last_joined, with_job_ended}
 use Rattle.cbs_core.specs.declared.last_unit.LastUnit.{LastUnit}
 use Rattle.cbs_core.proofs.Running.{running_server}
 use Rattle.cbs_rules.proofs.Deadlines.{begun_after_unit, begun_after_charge, begun_after_replenishment}
@@ -28,7 +28,7 @@ use Rattle.cbs_steps.specs.declared.error.CoreError.{CoreError}
 use Rattle.cbs_steps.specs.declared.view.ServerView.{ServerView}
 use Rattle.cbs_queues.specs.Queues.{list_at, jobs_run, result_run}
 use Rattle.cbs_steps.specs.Setups.{terms_of}
-use Rattle.cbs_core.specs.Invariant.{HoldsBacklog, IsCore, IsLastUnit}
+use Rattle.cbs_core.specs.Invariant.{HoldsBacklog, IsCore, IsLastUnit, IsUnfinished}
 use Rattle.cbs_steps.specs.Servers.{IsServer, MayCharge}
 use Rattle.cbs_steps.proofs.Faces.{rank_ready, runnable}
 use Rattle.cbs_steps.proofs.FaceSteps.{server_new, server_later, server_replenished, server_closed, server_joined, server_run, server_charged, budget_some, within_budget}
@@ -55,7 +55,7 @@ module _ {W : Type 0} (work : Meaning W) (backlog : ℕ) where
   pub core_new : (modes : List Mode) (rates : List Rate) (n : ℕ) (faces : List Face) (queues : List (List W)) (rooms : List ℕ)
       → length modes ≡ length rates → length rates ≤ 64 → backlog ≤ 4096
       → AllByRecursion (λ r. IsRate r.budget r.period) rates → total_share rates ≤ all_periods rates → faces ≡ map new_face (terms_of modes rates)
-      → n ≡ length faces → queues ≡ replicate n [] → IsCore work (record { backlog = backlog; clock = 0; last = record { server = 0; advanced_to = 0; charged = 0; charged_to = 0 }; faces = faces; queues = queues; rooms = rooms })
+      → n ≡ length faces → queues ≡ replicate n [] → IsCore work (record { backlog = backlog; clock = 0; last = record { server = 0; advanced_to = 0; charged = 0; charged_to = 0; unfinished = false }; faces = faces; queues = queues; rooms = rooms })
   core_new modes rates n faces queues rooms same few small ok one shown count empty =
       let size : n ≡ length (terms_of modes rates) = count ∙ ap length shown ∙ length-map (terms_of modes rates) new_face in
       record {
@@ -66,8 +66,13 @@ module _ {W : Type 0} (work : Meaning W) (backlog : ℕ) where
         each = rw shown (all_new modes rates ok);
         jobs = rw (shown, empty, size)
             (AllZip-replicate (HoldsBacklog work) [] new_face (terms_of modes rates) (λ t. record { counted = refl; unfinished = tt }));
-        last = record { advanced = omega arith; charged = omega arith; few = omega arith; there = λ ne. absurd (ne refl); begun = λ ne. absurd (ne refl) };
+        last = record { advanced = omega arith; charged = omega arith; few = omega arith; there = λ ne. absurd (ne refl); begun = λ ne. absurd (ne refl); unfinished = λ e. cc };
       }
+
+-- if both hold, the first holds
+pub left_true : (a b : Bool) → (a && b) ≡ true → a ≡ true
+left_true true b e = refl
+left_true false b e = e
 
 -- what a run of server s may rest on
 pub record MayRun {W : Type 0} (work : Meaning W) (core : CoreHeld W) (s : ℕ) : Type 0 where
@@ -82,10 +87,20 @@ pub record MayRun {W : Type 0} (work : Meaning W) (core : CoreHeld W) (s : ℕ) 
   pub begun : 0 < (face_at core.faces s).state.deadline
   pub last : IsLastUnit core.clock core.faces core.last
 
+-- a change of one server keeps that a job of it is unfinished, if it keeps how many jobs are
+unfinished_changed : (clock : ℕ) (f : Face → Face) (fs : List Face) (s t : ℕ) → ((x : Face) → IsUnfinished clock x → IsUnfinished clock (f x))
+    → IsUnfinished clock (face_at fs t) → IsUnfinished clock (face_at (changed_at f fs s) t)
+unfinished_changed clock f [] s t keeps h = h
+unfinished_changed clock f (x ∷ fs) zero zero keeps h = keeps x h
+unfinished_changed clock f (x ∷ fs) zero (suc t) keeps h = h
+unfinished_changed clock f (x ∷ fs) (suc s) zero keeps h = h
+unfinished_changed clock f (x ∷ fs) (suc s) (suc t) keeps h = unfinished_changed clock f fs s t keeps h
+
 -- a change of one server keeps what is known of the last unit, if each server that had begun has still begun
 last_changed : (clock : ℕ) (f : Face → Face) (faces : List Face) (s : ℕ) (l : LastUnit) → (0 < (face_at faces s).state.deadline → 0 < (f (face_at faces s)).state.deadline)
-    → IsLastUnit clock faces l → IsLastUnit clock (changed_at f faces s) l
-last_changed clock f faces s l keeps is = record {
+    → (l.unfinished ≡ true → (x : Face) → IsUnfinished clock x → IsUnfinished clock (f x)) → IsLastUnit clock faces l → IsLastUnit clock (changed_at f faces s) l
+last_changed clock f faces s l keeps counts is = record {
+  unfinished = λ e. unfinished_changed clock f faces s l.server (counts e) (is.unfinished e);
   advanced = is.advanced;
   charged = is.charged;
   few = is.few;
@@ -104,6 +119,7 @@ last_changed clock f faces s l keeps is = record {
 -- so do replenishments
 last_replenished : (clock now : ℕ) (faces : List Face) (l : LastUnit) → IsLastUnit clock faces l → IsLastUnit clock (map (with_replenishment now) faces) l
 last_replenished clock now faces l is = record {
+  unfinished = λ e. unfinished_replenished faces l.server (is.unfinished e);
   advanced = is.advanced;
   charged = is.charged;
   few = is.few;
@@ -111,6 +127,11 @@ last_replenished clock now faces l is = record {
   begun = λ ne. begun_replenished faces l.server (is.begun ne);
 }
   where
+    unfinished_replenished : (fs : List Face) (t : ℕ) → IsUnfinished clock (face_at fs t) → IsUnfinished clock (face_at (map (with_replenishment now) fs) t)
+    unfinished_replenished [] t h = h
+    unfinished_replenished (f ∷ fs) zero h = record { active = h.active; early = h.early }
+    unfinished_replenished (f ∷ fs) (suc t) h = unfinished_replenished fs t h
+
     begun_replenished : (fs : List Face) (t : ℕ) → 0 < (face_at fs t).state.deadline → 0 < (face_at (map (with_replenishment now) fs) t).state.deadline
     begun_replenished [] t h = h
     begun_replenished (f ∷ fs) zero h = begun_after_replenishment f.terms.reservation now f.state h
@@ -240,17 +261,18 @@ module _ {W : Type 0} {work : Meaning W} {core : CoreHeld W} (ok : IsCore work c
       (last_replenished now now faces last known)
 
   -- a run of server s, by what it does to faces and queues
-  pub core_run : {s : ℕ} {faces : List Face} {queues : List (List W)} {rooms : List ℕ} → MayRun work core s
+  pub core_run : {s : ℕ} {faces : List Face} {queues : List (List W)} {rooms : List ℕ} (left : Bool) → MayRun work core s
+      → (left ≡ true → result_run work (list_at core.queues s) ≡ None)
       → faces ≡ map (with_replenishment (core.clock + 1)) (changed_at (with_unit (is_some (result_run work (list_at core.queues s)))) core.faces s)
       → queues ≡ changed_at (jobs_run work) core.queues s
-      → IsCore work (record { backlog = core.backlog; clock = core.clock + 1; last = record core.last { server = s }; faces = faces; queues = queues; rooms = rooms })
-  core_run {s} {faces} {queues} {rooms} may shown run =
+      → IsCore work (record { backlog = core.backlog; clock = core.clock + 1; last = record core.last { server = s; unfinished = left }; faces = faces; queues = queues; rooms = rooms })
+  core_run {s} {faces} {queues} {rooms} left may more shown run =
       let done = is_some (result_run work (list_at core.queues s)) in
       let here : face_at (changed_at (with_unit done) core.faces s) s ≡ with_unit done (face_at core.faces s) = changed_here (with_unit done) core.faces s no_face may.within in
       let a = ok.last.advanced in
       let b = ok.last.charged in
       let c = ok.last.few in
-      rw (shown, run) (core_replenished (core.clock + 1) (record core.last { server = s }) (changed_at (with_unit done) core.faces s) _ rooms (let e = may.early in omega arith)
+      rw (shown, run) (core_replenished (core.clock + 1) (record core.last { server = s; unfinished = left }) (changed_at (with_unit done) core.faces s) _ rooms (let e = may.early in omega arith)
       (changed_kept reservation (with_unit done) core.faces s (λ f. refl))
       (AllByRecursion-changed_at _ _ (with_unit done) core.faces s no_face ok.each
       (λ f is. server_later core.backlog core.clock f is (core.clock + 1) (omega arith))
@@ -265,6 +287,12 @@ module _ {W : Type 0} {work : Meaning W} {core : CoreHeld W} (ok : IsCore work c
         charged = omega arith;
         few = omega arith;
         there = λ ne. let lt = may.within in omega (arith, length-changed_at (with_unit done) core.faces s);
+        unfinished = λ e.
+            let none : done ≡ false = ap is_some (more e) in
+            let f = server_at s may.within in
+            let active = (runnable (face_at core.faces s) may.ready).active in
+            let few = f.few_done in
+            rw (here, none) record { active = omega arith; early = omega arith };
         begun = λ ne. rw here (begun_after_unit (face_at core.faces s).terms.mode (face_at core.faces s).terms.reservation (face_at core.faces s).state may.begun);
       }))
 
@@ -277,7 +305,14 @@ module _ {W : Type 0} {work : Meaning W} {core : CoreHeld W} (ok : IsCore work c
       let c = ok.last.few in
       rw shown (core_replenished (core.clock + n) (record core.last { advanced_to = core.clock + n }) core.faces core.queues rooms (let k = ok.clock in omega arith) refl
       (AllByRecursion-weaker _ _ core.faces ok.each (λ f is. server_later core.backlog core.clock f is (core.clock + n) (omega arith))) ok.jobs
-      (record { advanced = omega arith; charged = omega arith; few = omega arith; there = λ ne. absurd (ne refl); begun = λ ne. absurd (ne refl) }))
+      (record {
+        advanced = omega arith;
+        charged = omega arith;
+        few = omega arith;
+        there = λ ne. absurd (ne refl);
+        begun = λ ne. absurd (ne refl);
+        unfinished = λ e. let u = ok.last.unfinished e in record { active = u.active; early = let t = u.early in omega arith };
+      }))
 
   -- a charge of n ticks of server s, which runs
   pub core_charged : (s n for_unit : ℕ) {faces : List Face} {rooms : List ℕ} → for_unit ≡ charged_at core.clock core.last + n
@@ -303,14 +338,16 @@ module _ {W : Type 0} {work : Meaning W} {core : CoreHeld W} (ok : IsCore work c
         charged = omega arith;
         few = omega arith;
         there = λ ne. omega (arith, length-changed_at (with_charge n for_unit) core.faces s);
+        unfinished = λ e. unfinished_changed (core.clock + n) (with_charge n for_unit) core.faces s core.last.server
+            (λ x u. record { active = u.active; early = u.early }) (let u = ok.last.unfinished e in record { active = u.active; early = let t = u.early in omega arith });
         begun = λ ne. rw (runner, here) (begun_after_charge (face_at core.faces s).terms.mode (face_at core.faces s).terms.reservation n (face_at core.faces s).state may.begun);
       }))
 
   -- one more job of server s
   pub core_joined : (s : ℕ) (job : W) {faces : List Face} {queues : List (List W)} {rooms : List ℕ} → Accepts core s → 0 < work.left job
       → faces ≡ changed_at (with_job core.clock) core.faces s → queues ≡ changed_at (λ jobs. jobs ++ job ∷ []) core.queues s
-      → IsCore work (record { backlog = core.backlog; clock = core.clock; last = core.last; faces = faces; queues = queues; rooms = rooms })
-  core_joined s job {faces} {queues} {rooms} accepts some shown joined = rw (shown, joined) (core_made core.clock core.last _ _ rooms ok.clock
+      → IsCore work (record { backlog = core.backlog; clock = core.clock; last = last_joined core s; faces = faces; queues = queues; rooms = rooms })
+  core_joined s job {faces} {queues} {rooms} accepts some shown joined = rw (shown, joined) (core_made core.clock (last_joined core s) _ _ rooms ok.clock
       (changed_kept reservation (with_job core.clock) core.faces s (λ f. refl))
       (AllByRecursion-changed_at _ _ (with_job core.clock) core.faces s no_face ok.each (λ f is. is)
       (λ is. server_joined core.backlog core.clock (face_at core.faces s) is accepts.few))
@@ -321,9 +358,18 @@ module _ {W : Type 0} {work : Meaning W} {core : CoreHeld W} (ok : IsCore work c
             (arith, length-append (list_at core.queues s) (job ∷ []));
         unfinished = AllByRecursion-push (λ w. 0 < work.left w) (list_at core.queues s) job h.unfinished some;
       }))
-      (last_changed core.clock (with_job core.clock) core.faces s core.last
+      (last_changed core.clock (with_job core.clock) core.faces s (last_joined core s)
       (λ h. let is = server_at s accepts.is_open.within in
-      (arrives_in core.clock (face_at core.faces s) is.lawful is.state is.begun (core.clock + (core.clock + 1) * 1000000000) is.early (let p = is.lawful.short in omega arith)).begun) ok.last))
+      (arrives_in core.clock (face_at core.faces s) is.lawful is.state is.begun (core.clock + (core.clock + 1) * 1000000000) is.early (let p = is.lawful.short in omega arith)).begun)
+      (λ e x u. record { active = let a = u.active in omega arith; early = u.early })
+      (record {
+        advanced = ok.last.advanced;
+        charged = ok.last.charged;
+        few = ok.last.few;
+        there = ok.last.there;
+        begun = ok.last.begun;
+        unfinished = λ e. ok.last.unfinished (left_true core.last.unfinished (not (eqb core.last.server s)) e);
+      })))
 
   -- server s is closed
   pub core_closed : (s : ℕ) {faces : List Face} {rooms : List ℕ} → s < length core.faces → faces ≡ changed_at with_close core.faces s
@@ -332,4 +378,71 @@ module _ {W : Type 0} {work : Meaning W} {core : CoreHeld W} (ok : IsCore work c
       (changed_kept reservation with_close core.faces s (λ f. refl))
       (AllByRecursion-changed_at _ _ with_close core.faces s no_face ok.each (λ f is. is) (server_closed core.backlog core.clock (face_at core.faces s)))
       (AllZip-changed_second _ with_close core.queues core.faces s ok.jobs (λ jobs f h. record { counted = h.counted; unfinished = h.unfinished }))
-      (last_changed core.clock with_close core.faces s core.last (λ h. h) ok.last))
+      (last_changed core.clock with_close core.faces s core.last (λ h. h) (λ e x u. record { active = u.active; early = u.early }) ok.last))
+
+  -- the server of the last unit, which runs, has a job that is unfinished
+  pub may_end_there : (s : ℕ) → may_end core s ≡ true → (s < length core.faces) × IsUnfinished core.clock (face_at core.faces s)
+  may_end_there s may =
+      let runs : is_running core s ≡ true = left_true (is_running core s) core.last.unfinished may in
+      let open_unit : core.last.unfinished ≡ true = rw runs at may in
+      let runner = running_server core s runs in
+      (running_there s runs, rw runner.1 at (ok.last.unfinished open_unit))
+
+  -- that job is ended
+  pub core_ended : (s : ℕ) {faces : List Face} {queues : List (List W)} {rooms : List ℕ} → may_end core s ≡ true
+      → faces ≡ changed_at with_job_ended core.faces s → queues ≡ changed_at (drop 1) core.queues s
+      → IsCore work (record { backlog = core.backlog; clock = core.clock; last = record core.last { unfinished = false }; faces = faces; queues = queues; rooms = rooms })
+  core_ended s {faces} {queues} {rooms} may shown left =
+      let there = may_end_there s may in
+      let lt = there.0 in
+      let active = there.1.active in
+      let early = there.1.early in
+      rw (shown, left) (core_made core.clock (record core.last { unfinished = false }) _ _ rooms ok.clock
+      (changed_kept reservation with_job_ended core.faces s (λ f. refl))
+      (AllByRecursion-changed_at _ _ with_job_ended core.faces s no_face ok.each (λ f is. is)
+      (λ is. record {
+        lawful = is.lawful;
+        state = is.state;
+        free = is.free;
+        begun = λ _. is.begun (grind (arith, nat_tests));
+        early = is.early;
+        counted = omega arith;
+        few_done = omega arith;
+        few_charged = is.few_charged;
+        few_jobs = let j = is.few_jobs in omega arith;
+      }))
+      (AllZip-changed_at _ core.queues core.faces s [] no_face (drop 1) with_job_ended ok.jobs (let n = queue_count in omega arith)
+      (λ h. record {
+        counted = let c = h.counted in omega (arith, length-drop 1 (list_at core.queues s));
+        unfinished = rest (list_at core.queues s) h.unfinished;
+      }))
+      (last_changed core.clock with_job_ended core.faces s (record core.last { unfinished = false }) (λ h. h) (λ e. cc)
+      (record { advanced = ok.last.advanced; charged = ok.last.charged; few = ok.last.few; there = ok.last.there; begun = ok.last.begun; unfinished = λ e. cc })))
+    where
+      rest : (jobs : List W) → AllByRecursion (λ w. 0 < work.left w) jobs → AllByRecursion (λ w. 0 < work.left w) (drop 1 jobs)
+      rest [] all = tt
+      rest (job ∷ jobs) all = all.1
+
+  -- a unit of server s, in the next tick, leaves it as the one that runs
+  pub run_runs : (s : ℕ) (left : Bool) (faces : List Face) (queues : List (List W)) (rooms : List ℕ)
+      → is_running (record { backlog = core.backlog; clock = core.clock + 1; last = record core.last { server = s; unfinished = left }; faces = faces; queues = queues; rooms = rooms }) s ≡ true
+  run_runs s left faces queues rooms =
+      let a = ok.last.advanced in
+      let moved : eqb core.last.advanced_to (core.clock + 1) ≡ false = grind (arith, nat_tests) in
+      let same : eqb s s ≡ true = grind (arith, nat_tests) in
+      rw (moved, same) refl
+
+  -- after a charge of some ticks of a server that runs, the same server runs
+  pub charged_may : (s n for_unit : ℕ) (faces : List Face) (queues : List (List W)) (rooms : List ℕ) → is_running core s ≡ true → 0 < n → (t : ℕ)
+      → may_end (record { backlog = core.backlog; clock = core.clock + n; last = record core.last { charged = for_unit; charged_to = core.clock + n }; faces = faces; queues = queues; rooms = rooms }) t
+      ≡ may_end core t
+  charged_may s n for_unit faces queues rooms runs some t =
+      let a = ok.last.advanced in
+      let moved : eqb core.last.advanced_to (core.clock + n) ≡ false = grind (arith, nat_tests) in
+      let before = (running_server core s runs).0 in
+      rw (moved, before) refl
+
+-- if the second is false, not both hold
+pub right_false : (b : Bool) → (b && false) ≡ false
+right_false true = refl
+right_false false = refl

@@ -50,12 +50,12 @@ served work law (job ∷ js) a p some all =
     ]
 
 -- what is left of the accepted jobs agrees with them
-agrees_by : {W : Type 0} (work : Meaning W) (jobs : List W) (a : Account W) (k : ℕ) → Parts work jobs a.accepted a.got k → AgreesJobs work jobs a
+pub agrees_by : {W : Type 0} (work : Meaning W) (jobs : List W) (a : Account W) (k : ℕ) → Parts work jobs a.accepted a.got k → AgreesJobs work jobs a
 agrees_by work jobs a k p = record { results = rw p.count p.results; lefts = rw p.count (lefts_of work.left _ jobs _ p.lefts) }
 
 module _ {W : Type 0} (work : Meaning W) (jobs : List W) (a : Account W) (agrees : AgreesJobs work jobs a) where
   -- the jobs held are those left of the accepted ones
-  parts_of : Parts work jobs a.accepted a.got (finished work a)
+  pub parts_of : Parts work jobs a.accepted a.got (finished work a)
   parts_of = record { count = refl; results = agrees.results; lefts = left_by work.left _ jobs _ agrees.lefts }
 
   -- as many jobs are held as the backlog is

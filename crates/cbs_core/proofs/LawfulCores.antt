@@ -24,6 +24,7 @@ use Rattle.cbs_steps.specs.Promises.{promised, AllFinishedBy}
 use Rattle.cbs_core.proofs.OnTimeCores.{agreed_on_time, agreed_paced, held_paced}
 use Rattle.cbs_steps.proofs.Promised.{tick_kept, tick_kept_late}
 use Rattle.cbs_steps.proofs.Punctual.{punctual}
+use Rattle.cbs_hindsight.proofs.Hindsight.{IsStill, ends_still}
 
 module _ {W : Type 0} (work : Meaning W) where
   -- what a core keeps of its servers says that its reservations were admitted
@@ -49,10 +50,11 @@ module _ {W : Type 0} (work : Meaning W) where
 
   module _ {core held : CoreHeld W} (view : core ≡ held) (ok : IsCore work core) (x : Step W) (r : Reply W) where
     -- a step with this reply, which leaves the world as it is, was made with no change
-    pub makes_still : ((M : History W) → Agrees work held M → (r ≡ reply_in work M x) × (world_after work (M ⊕ x) ≡ world_after work M)) → Makes work held held x r
-    makes_still told = record {
+    pub makes_still : ((M : History W) → Agrees work held M → IsStill work M x)
+        → ((M : History W) → Agrees work held M → (r ≡ reply_in work M x) × (world_after work (M ⊕ x) ≡ world_after work M)) → Makes work held held x r
+    makes_still still told = record {
       reply = λ M agrees. (told M agrees).0;
-      state = λ M agrees. record { world = rw (told M agrees).1 agrees.world };
+      state = λ M agrees. record { world = rw (told M agrees).1 agrees.world; unit = λ e. ends_still work M x held.last.server (still M agrees) (agrees.unit e) };
       on_time = λ M agrees. keeps_time view ok agrees x;
       paced = λ M agrees. keeps_pace view ok agrees x;
       count = refl;

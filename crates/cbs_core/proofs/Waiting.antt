@@ -1,5 +1,5 @@
 -- What is kept of the servers that wait to be replenished, as servers change.
-use Rattle.std.proofs.Common.{◌≡◌, ℕ, suc, ◌<◌, ◌≤◌, true, List, [], ◌∷◌, length, map, get_or, set, take, refl, sym, ◌∙◌, ap, arith}
+use Rattle.std.proofs.Common.{◌≡◌, ℕ, zero, suc, ◌<◌, ◌≤◌, true, List, [], ◌∷◌, length, map, get_or, set, take, refl, sym, ◌∙◌, ap, arith}
 use Rattle.std.specs.Prelude.{min}
 use Rattle.cbs_rules.specs.Rules.{Terms}
 use Rattle.cbs_lists.proofs.Lists.{AllByRecursion-get, AllByRecursion-set, AllByRecursion-take_set}
@@ -53,3 +53,13 @@ keeps_more w after fs i f keeps lt noted = record {
   due = AllByRecursion-take_set (IsNotDueBefore after.due) fs i f lt (due_earlier w.due after.due (take i fs) noted.earlier keeps.due) noted.due;
   wakes = noted.wakes (rw keeps.wakes (wakes_most (take i fs))) ∙ (ap (λ n. min n (wake f)) keeps.wakes ∙ sym (wake_more fs i f lt));
 }
+
+-- one more server is seen, which has not changed
+pub keeps_next : (w after : Waits) (fs : List Face) (i : ℕ) (f : Face) → Keeps w (take i fs) → i < length fs → f ≡ get_or fs i f → IsNoted w f after
+    → Keeps after (take (suc i) fs)
+keeps_next w after fs i f keeps lt read noted = rw (set_self fs i f lt read) at (keeps_more w after fs i f keeps lt noted)
+  where
+    set_self : (fs : List Face) (i : ℕ) (f : Face) → i < length fs → f ≡ get_or fs i f → set fs i f ≡ fs
+    set_self [] i f lt read = absurd (omega arith)
+    set_self (x ∷ fs) zero f lt read = ap (λ y. y ∷ fs) read
+    set_self (x ∷ fs) (suc i) f lt read = ap (λ ys. x ∷ ys) (set_self fs i f (omega arith) read)

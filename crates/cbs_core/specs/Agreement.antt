@@ -9,6 +9,8 @@ use Rattle.cbs_steps.specs.Continuations.{◌⊕⊕◌, EachAllowed}
 use Rattle.cbs_steps.specs.OnTime.{IsWorldOnTime}
 use Rattle.cbs_steps.specs.Paced.{IsWorldPaced}
 use Rattle.cbs_steps.specs.declared.step.Step.{Step}
+use Rattle.cbs_steps.specs.Laws.{account_in}
+use Rattle.cbs_hindsight.specs.Hindsight.{IsCut, EndsWithUnit, effective, ending, hindsight}
 use Rattle.cbs_core.specs.Held.{CoreHeld, is_running, charged_at, IsCoreOnTime, IsCorePaced}
 
 -- the list with its first number replaced
@@ -32,9 +34,11 @@ module _ {W : Type 0} where
     pub runs : (s : ℕ) → (account w.accounts s).runs ≡ is_running core s
     pub latest : (s : ℕ) → is_running core s ≡ true → (account w.accounts s).latest ≡ charged_at core.clock core.last
 
-  -- the core agrees with the history
+  -- The core agrees with the history. If the core says that the last unit left its job unfinished, the history ends
+  -- with such a unit, but for steps that did nothing
   pub record Agrees (work : Meaning W) (core : CoreHeld W) (M : History W) : Type 0 where
     pub world : AgreesWorld work core M.setup.backlog (world_after work M)
+    pub unit : core.last.unfinished ≡ true → EndsWithUnit work (effective work M) core.last.server
 
   -- `told` holds of the state after every history that the core agrees with
   abbrev pub TellsOf : Meaning W → CoreHeld W → (World W → Type 0) → Type 0
@@ -47,6 +51,18 @@ module _ {W : Type 0} where
   -- the new core agrees with every history of the old core followed by the steps
   abbrev pub Follows : Meaning W → CoreHeld W → CoreHeld W → List (Step W) → Type 0
   Follows work old new xs = (M : History W) → Agrees work old M → Agrees work new (M ⊕⊕ xs)
+
+  -- The first job of s that is unfinished after the history, as it is in hindsight if it ends then: a job that had only
+  -- the units that it got
+  abbrev pub ended : Meaning W → (ℕ → W → W) → ℕ → History W → History W
+  ended work cut s M =
+      let N = effective work M in
+      hindsight work cut (ending work N s (finished work (account_in work N s))) N
+
+  -- The new core agrees with every history of the old core in hindsight: as if the job of s that got the last unit had
+  -- had only the units that it got. It is so for every way to make jobs shorter
+  abbrev pub FollowsInHindsight : Meaning W → CoreHeld W → CoreHeld W → ℕ → Type 0
+  FollowsInHindsight work old new s = (cut : ℕ → W → W) → IsCut work cut → (M : History W) → Agrees work old M → Agrees work new (ended work cut s M)
 
   -- each of the steps, made from this core on, is allowed at its place
   abbrev pub AllAllowed : Meaning W → (History W → Step W → Type 0) → CoreHeld W → List (Step W) → Type 0

@@ -1,8 +1,9 @@
 -- What a core holds, and what each call does to it.
-use Rattle.std.specs.Prelude.{◌≡◌, ◌≢◌, ℕ, ◌+◌, ◌<◌, ◌≤◌, Bool, true, false, eqb, if◌then◌else◌, List, [], ◌∷◌, ◌++◌, length, map, get_or, Option, Some, None}
+use Rattle.std.specs.Prelude.{◌≡◌, ◌≢◌, ℕ, ◌+◌, ◌<◌, ◌≤◌, Bool, true, false, not, ◌&&◌, eqb, leb, drop, if◌then◌else◌, List, [], ◌∷◌, ◌++◌, length, map, get_or, Option, Some, None}
 use Rattle.cbs_job.specs.Work.{Meaning, whole}
 use Rattle.cbs_job.specs.declared.completion.Completion.{Completion}
 use Rattle.cbs_rules.specs.Rules.{clock_end}
+use Rattle.cbs_lists.specs.Lists.{changed_at}
 use Rattle.cbs_steps.specs.Faces.{Face, face_at, backlog_of}
 pub use Rattle.cbs_queues.specs.Queues.{room_of, KeepsRoom, front_output}
 use Rattle.cbs_steps.specs.Laws.{IsWithinBudget}
@@ -43,6 +44,10 @@ abbrev pub is_some_of : Option ℕ → ℕ → Bool
 is_some_of None s = false
 is_some_of (Some t) s = eqb t s
 
+-- the face after a job of the server ended before its last unit
+abbrev pub with_job_ended : Face → Face
+with_job_ended f = record f { finished = f.finished + 1 }
+
 module _ {W : Type 0} where
   -- what the core holds of server s
   abbrev pub held_at : CoreHeld W → ℕ → Held W
@@ -56,6 +61,28 @@ module _ {W : Type 0} where
   -- server s runs
   abbrev pub is_running : CoreHeld W → ℕ → Bool
   is_running core s = is_some_of (running core) s
+
+  -- The job that got the last unit may be ended: it is one of server s, which runs; that unit was not its last, and no
+  -- job was handed to s since
+  abbrev pub may_end : CoreHeld W → ℕ → Bool
+  may_end core s = is_running core s && core.last.unfinished
+
+  -- why an end of that job is refused, if it is
+  abbrev pub end_refusal : CoreHeld W → ℕ → Option CoreError
+  end_refusal core s = if leb (length core.faces) s then Some error.NoSuchServer else if may_end core s then None else Some error.NotRunning
+
+  -- The core after the job of s that got the last unit was ended: the job is gone, and s shows one more finished job.
+  -- Nothing else differs
+  abbrev pub ended_at : ℕ → CoreHeld W → CoreHeld W
+  ended_at s core = record core {
+    last = record core.last { unfinished = false };
+    faces = changed_at with_job_ended core.faces s;
+    queues = changed_at (drop 1) core.queues s;
+  }
+
+  -- what is known of the last unit after server s accepted a job
+  abbrev pub last_joined : CoreHeld W → ℕ → LastUnit
+  last_joined core s = record core.last { unfinished = core.last.unfinished && not (eqb core.last.server s) }
 
   -- the core holds a job: an accepted job is not finished
   abbrev pub HoldsJob : CoreHeld W → Type 0
@@ -130,6 +157,15 @@ pub record FinishesJob {W : Type 0} (work : Meaning W) (c : Completion) (old new
   pub finished : new.face.finished ≡ old.face.finished + 1
   pub closed : new.face.closed ≡ old.face.closed
 
+-- The server's first job ended before its last unit: the job is gone, and the completion gives its output so far
+pub record EndsJob {W : Type 0} (work : Meaning W) (c : Completion) (old new : Held W) : Type 0 where
+  pub number : c.seq ≡ old.face.finished
+  pub result : front_output work old.jobs ≡ Some c.result
+  pub jobs : new.jobs ≡ drop 1 old.jobs
+  pub accepted : new.face.accepted ≡ old.face.accepted
+  pub finished : new.face.finished ≡ old.face.finished + 1
+  pub closed : new.face.closed ≡ old.face.closed
+
 -- the server was closed
 pub record ClosesServer {W : Type 0} (old new : Held W) : Type 0 where
   pub jobs : new.jobs ≡ old.jobs
@@ -150,6 +186,13 @@ module _ {W : Type 0} where
   -- the jobs, counts and close of every server are as before
   abbrev pub AllSame : CoreHeld W → CoreHeld W → Type 0
   AllSame old new = (t : ℕ) → SameJobs (held_at old t) (held_at new t)
+
+  -- Whether the job that got the last unit may be ended after a Run, by the result of the Run
+  abbrev pub LeavesUnit : Ran → CoreHeld W → Type 0
+  LeavesUnit ran.Idle new = Unit {0}
+  LeavesUnit ran.ClockEnd new = Unit {0}
+  LeavesUnit (ran.Unit s q) new = may_end new s ≡ true
+  LeavesUnit (ran.Done c) new = may_end new c.server ≡ false
 
   -- what a Run did to the jobs, by its result
   abbrev pub DoesRun : Meaning W → Ran → CoreHeld W → CoreHeld W → Type 0

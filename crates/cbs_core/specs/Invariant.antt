@@ -1,5 +1,5 @@
 -- The invariant of a core. Definitions for this crate alone: public contracts speak of agreement.
-use Rattle.std.specs.Prelude.{◌≡◌, ◌≢◌, ℕ, ◌≤◌, ◌<◌, List, length}
+use Rattle.std.specs.Prelude.{true, ◌≡◌, ◌≢◌, ℕ, ◌≤◌, ◌<◌, List, length}
 use Rattle.std.specs.List.{AllByRecursion, AllZip}
 use Rattle.cbs_rate.specs.Limits.{most_backlog, most_servers}
 use Rattle.cbs_job.specs.Work.{Meaning}
@@ -22,6 +22,11 @@ pub record HoldsBacklog {W : Type 0} (work : Meaning W) (jobs : List W) (f : Fac
   pub counted : length jobs ≡ backlog_of f
   pub unfinished : AllByRecursion (λ w. 0 < work.left w) jobs
 
+-- a job of the server is unfinished, and got a unit: fewer jobs are finished than ticks have passed
+pub record IsUnfinished (clock : ℕ) (f : Face) : Type 0 where
+  pub active : f.finished < f.accepted
+  pub early : f.finished < clock
+
 -- what is known of the last unit is from no later tick. A server that runs is there and has had its first deadline
 pub record IsLastUnit (clock : ℕ) (faces : List Face) (l : LastUnit) : Type 0 where
   pub advanced : l.advanced_to ≤ clock
@@ -29,6 +34,7 @@ pub record IsLastUnit (clock : ℕ) (faces : List Face) (l : LastUnit) : Type 0 
   pub few : l.charged ≤ clock
   pub there : l.advanced_to ≢ clock → l.server < length faces
   pub begun : l.advanced_to ≢ clock → 0 < (face_at faces l.server).state.deadline
+  pub unfinished : l.unfinished ≡ true → IsUnfinished clock (face_at faces l.server)
 
 -- the invariant of every core; the total bandwidth of its servers is at most one, as in every plan
 pub record IsCore {W : Type 0} (work : Meaning W) (core : CoreHeld W) : Type 0 where

@@ -1,6 +1,6 @@
 //! The core: all servers, and the clock.
 
-ghost use Rattle.std.specs.Prelude.{◌≡◌, ℕ, ◌+◌, ◌*◌, ◌<◌, ◌≤◌, true, false, IfOk, IfErr, IfSome, OnOk, OnErr, IsOk, length, slice_get, [], MatchOption};
+ghost use Rattle.std.specs.Prelude.{◌≡◌, ℕ, ◌+◌, ◌*◌, ◌<◌, ◌≤◌, ◌&&◌, not, eqb, true, false, IfOk, IfErr, IfSome, OnOk, OnErr, IsOk, length, slice_get, [], Some, None, MatchOption, MatchResult};
 ghost use Rattle.cbs_rate.specs.Refusals.{RefusesByOrMemory};
 ghost use Rattle.cbs_steps.specs.Quiet.{IsAtRest, IsIdleSpan};
 ghost use Rattle.cbs_steps.specs.Choice.{IsChoice};
@@ -14,9 +14,9 @@ ghost use Rattle.cbs_steps.specs.Paced.{AllFinishedLate};
 ghost use Rattle.cbs_steps.specs.Promises.{promised, AllFinishedBy};
 ghost use Rattle.cbs_steps.specs.Punctual.{IsPunctual};
 ghost use Rattle.cbs_steps.specs.Setups.{terms_of, new_refusal};
-ghost use Rattle.cbs_core.specs.Agreement.{Agrees, TellsOf};
+ghost use Rattle.cbs_core.specs.Agreement.{Agrees, FollowsInHindsight, TellsOf};
 ghost use Rattle.cbs_core.specs.Calls.{AllPunctual, CompletesSteps, IsBefore, Makes, RefusesAsSubmit, Tries, TriesAll};
-ghost use Rattle.cbs_core.specs.Held.{room_of, KeepsRoom, IsOpen, HasRoom, IsRefusedBy, IsCoreOnTime, IsCorePaced, front_output, held_at, TakesJob, ClosesServer, OthersSame, AllSame, DoesRun, CountsOn, running, is_running};
+ghost use Rattle.cbs_core.specs.Held.{room_of, KeepsRoom, IsOpen, HasRoom, IsRefusedBy, IsCoreOnTime, IsCorePaced, front_output, held_at, TakesJob, ClosesServer, OthersSame, AllSame, DoesRun, LeavesUnit, CountsOn, EndsJob, ended_at, running, is_running, may_end, end_refusal};
 ghost use Rattle.cbs_rate.specs.Limits.{longest_period, most_servers};
 
 use crate::last_unit::LastUnit;
@@ -178,6 +178,8 @@ impl<W: Work, A: Allocator> Core<W, A> {
         ensures job { IfOk result (λ number. TakesJob task number (held_at self.old server)
             (held_at self.new server)
             × OthersSame server self.old self.new) }
+        ensures ends { OnOk result ((s : ℕ) → may_end self.new s
+            ≡ (may_end self.old s && not (eqb self.old.last.server server))) }
         ensures unchanged { OnErr result (self.new ≡ record self.old { rooms = self.new.rooms }) }
         ensures kept { OnErr result (KeepsRoom self.old.rooms self.new.rooms) }
     {
@@ -206,8 +208,11 @@ impl<W: Work, A: Allocator> Core<W, A> {
             (Reply.Accepted result) }
         ensures job { TakesJob task result (held_at self.old server) (held_at self.new server)
             × OthersSame server self.old self.new }
+        ensures ends { (s : ℕ) → may_end self.new s
+            ≡ (may_end self.old s && not (eqb self.old.last.server server)) }
     {
         self.queues.push(server, task);
+        self.last.join(server);
         self.servers.accept(server, self.clock)
     }
 
@@ -220,6 +225,7 @@ impl<W: Work, A: Allocator> Core<W, A> {
     pub fn run(&mut self) -> Ran
         ensures makes { Makes W.meaning self.old self.new Step.Run (Reply.Ran result) }
         ensures job { DoesRun W.meaning result self.old self.new }
+        ensures ends { LeavesUnit result self.new }
         ensures kept { KeepsRoom self.old.rooms self.new.rooms }
     {
         let Some(server) = self.servers.choose() else {
@@ -235,15 +241,76 @@ impl<W: Work, A: Allocator> Core<W, A> {
         let seq = self.servers.finished(server);
         // Each case passes the tick for itself, so that most units test only once whether a job is finished.
         let Some(result) = output else {
+            self.last.unfinished = true;
             self.servers.pass_tick(server, false, self.clock);
             return Ran::Unit { server, seq };
         };
+        self.last.unfinished = false;
         self.servers.pass_tick(server, true, self.clock);
         Ran::Done(Completion {
             server,
             seq,
             result,
         })
+    }
+
+    /// Ends the job that got the last unit of all, although it has units left. The job leaves its queue and counts as
+    /// finished. Returns its completion, with the job's output so far.
+    ///
+    /// In hindsight the job had only the units that it got, from its submit on. So the end moves no clock and changes no
+    /// budget, deadline or mark, and the server may still be charged for the unit.
+    ///
+    /// Refuses, in this order:
+    /// - [`CoreError::NoSuchServer`];
+    /// - [`CoreError::NotRunning`], unless the server ran the last unit and no tick has passed since, except those
+    ///   charged for the unit. The same if that unit was the last of its job, or if the server accepted a job since.
+    ///
+    /// A refusal changes nothing.
+    #[tactic(auto, using(cbs_lists::proofs::Lists::counted, crate::proofs::Cores::budgets_kept))]
+    pub fn finish(&mut self, server: u16) -> Result<Completion, CoreError>
+        ensures hindsight { OnOk result (FollowsInHindsight W.meaning self.old self.new server) }
+        ensures job { IfOk result (λ c. EndsJob W.meaning c (held_at self.old server)
+            (held_at self.new server)
+            × OthersSame server self.old self.new × (c.server ≡ server)) }
+        ensures same { OnOk result (self.new
+            ≡ record (ended_at server self.old) { rooms = self.new.rooms }) }
+        ensures refusal { MatchResult result (λ c. end_refusal self.old server ≡ None)
+            (λ error. end_refusal self.old server ≡ Some error) }
+        ensures unchanged { OnErr result (self.new ≡ self.old) }
+        ensures on_time { IsCoreOnTime self.old → IsCoreOnTime self.new }
+        ensures paced { IsCorePaced self.old → IsCorePaced self.new }
+        ensures kept { KeepsRoom self.old.rooms self.new.rooms }
+    {
+        if server >= self.servers.len() {
+            return Err(CoreError::NoSuchServer);
+        }
+        if !self.last.is_of(server, self.clock) || !self.last.unfinished {
+            return Err(CoreError::NotRunning);
+        }
+        Ok(self.finish_running(server))
+    }
+
+    /// Ends the job that got the last unit, which is one of `server` and may be ended.
+    #[tactic(auto, using(cbs_lists::proofs::Lists::counted, crate::proofs::Cores::budgets_kept))]
+    fn finish_running(&mut self, server: u16) -> Completion
+        requires { may_end self.old server ≡ true }
+        ensures hindsight { FollowsInHindsight W.meaning self.old self.new server }
+        ensures job { EndsJob W.meaning result (held_at self.old server) (held_at self.new server)
+            × OthersSame server self.old self.new × (result.server ≡ server) }
+        ensures same { self.new ≡ record (ended_at server self.old) { rooms = self.new.rooms } }
+        ensures on_time { IsCoreOnTime self.old → IsCoreOnTime self.new }
+        ensures paced { IsCorePaced self.old → IsCorePaced self.new }
+        ensures kept { KeepsRoom self.old.rooms self.new.rooms }
+    {
+        self.last.unfinished = false;
+        let seq = self.servers.finished(server);
+        let result = self.queues.end_first(server);
+        self.servers.end_job(server);
+        Completion {
+            server,
+            seq,
+            result,
+        }
     }
 
     /// Lets `n` ticks pass in one jump.
@@ -284,6 +351,7 @@ impl<W: Work, A: Allocator> Core<W, A> {
         ensures makes { Makes W.meaning self.old self.new (Step.Charge server ticks)
             (charged result) }
         ensures jobs { AllSame self.old self.new }
+        ensures ends { (s : ℕ) → may_end self.new s ≡ may_end self.old s }
         ensures unchanged { OnErr result (self.new ≡ self.old) }
         ensures kept { KeepsRoom self.old.rooms self.new.rooms }
     {
@@ -310,6 +378,7 @@ impl<W: Work, A: Allocator> Core<W, A> {
         requires clock { self.old.clock + ticks ≤ LIMIT }
         ensures makes { Makes W.meaning self.old self.new (Step.Charge server ticks) Reply.Charged }
         ensures jobs { AllSame self.old self.new }
+        ensures ends { (s : ℕ) → may_end self.new s ≡ may_end self.old s }
         ensures kept { KeepsRoom self.old.rooms self.new.rooms }
     {
         let for_unit = self.last.charge(self.clock, ticks);
@@ -327,6 +396,7 @@ impl<W: Work, A: Allocator> Core<W, A> {
         ensures closed { OnOk result (ClosesServer (held_at self.old server)
             (held_at self.new server)
             × OthersSame server self.old self.new) }
+        ensures ends { (s : ℕ) → may_end self.new s ≡ may_end self.old s }
         ensures succeeds { IsOpen self.old server → IsOk result }
         ensures unchanged { OnErr result (self.new ≡ self.old) }
         ensures kept { KeepsRoom self.old.rooms self.new.rooms }
@@ -345,6 +415,7 @@ impl<W: Work, A: Allocator> Core<W, A> {
         ensures makes { Makes W.meaning self.old self.new (Step.Close server) Reply.Closed }
         ensures closed { ClosesServer (held_at self.old server) (held_at self.new server)
             × OthersSame server self.old self.new }
+        ensures ends { (s : ℕ) → may_end self.new s ≡ may_end self.old s }
         ensures kept { KeepsRoom self.old.rooms self.new.rooms }
     {
         self.servers.close(server);

@@ -1,11 +1,11 @@
-//! The server of the last unit, and what was charged for the unit.
+//! The server of the last unit, what was charged for the unit, and whether its job is unfinished.
 
-ghost use Rattle.std.specs.Prelude.{◌≡◌, ◌+◌, ◌<◌, ◌^◌};
+ghost use Rattle.std.specs.Prelude.{◌≡◌, ◌+◌, ◌<◌, ◌^◌, ◌&&◌, not, eqb, false};
 ghost use Rattle.cbs_core.specs.Held.{is_some_of, runner_at, charged_at};
 
-/// The server of the last unit, and what was charged for the unit.
+/// The server of the last unit, what was charged for the unit, and whether its job is unfinished.
 ///
-/// A run writes only the server. The server runs as long as the clock differs from the clock after the last advance.
+/// A run writes only the server, and whether the job is unfinished. The server runs as long as the clock differs from the clock after the last advance.
 #[derive(Clone, Copy)]
 pub struct LastUnit {
     /// The server of the last unit, if there was one.
@@ -16,18 +16,21 @@ pub struct LastUnit {
     pub charged: u64,
     /// The clock after the last charge, 0 before the first.
     pub charged_to: u64,
+    /// Whether the unit left its job unfinished, and the server has accepted no job since.
+    pub unfinished: bool,
 }
 
 impl LastUnit {
     /// Returns the value before the first unit.
     pub fn new() -> LastUnit
-        ensures { result ≡ record { server = 0; advanced_to = 0; charged = 0; charged_to = 0 } }
+        ensures { result ≡ record { server = 0; advanced_to = 0; charged = 0; charged_to = 0; unfinished = false } }
     {
         LastUnit {
             server: 0,
             advanced_to: 0,
             charged: 0,
             charged_to: 0,
+            unfinished: false,
         }
     }
 
@@ -47,6 +50,15 @@ impl LastUnit {
         ensures { result ≡ is_some_of (runner_at now self.now) server }
     {
         self.advanced_to != now && self.server == server
+    }
+
+    /// Records that `server` accepted a job.
+    pub fn join(&mut self, server: u16)
+        ensures { self.new ≡ record self.old {
+          unfinished = self.old.unfinished && not (eqb self.old.server server);
+        } }
+    {
+        self.unfinished = self.unfinished && self.server != server;
     }
 
     /// Records a charge of `ticks` ticks at tick `now`. Returns how many ticks were charged for the unit in total.

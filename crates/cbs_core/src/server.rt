@@ -3,6 +3,7 @@
 ghost use Rattle.std.specs.Prelude.{◌≡◌, ℕ, ◌+◌, ◌*◌, ◌<◌, ◌≤◌, ◌^◌, false, true, Some};
 ghost use Rattle.cbs_steps.specs.Faces.{new_face, is_active, is_ready, ready_by, backlog_of, refuses_close, refuses_submit, view_of, with_job, with_unit, with_charge, with_replenishment, with_close};
 ghost use Rattle.cbs_steps.specs.Promises.{promised_by};
+ghost use Rattle.cbs_core.specs.Held.{with_job_ended};
 
 use cbs_rate::Reservation;
 use cbs_rules::{LIMIT, MAX_DEADLINE, Mode, ServerState};
@@ -208,6 +209,14 @@ impl Server {
         }
         self.finished += 1;
         more && self.is_active()
+    }
+
+    /// Counts the first unfinished job as finished, if its last unit is not to come.
+    pub fn end_job(&mut self)
+        requires { is_active self.old ≡ true }
+        ensures { self.new ≡ with_job_ended self.old }
+    {
+        self.finished += 1;
     }
 
     /// Charges the server `ticks` ticks for its last unit. With them, `for_unit` ticks were charged for that unit.

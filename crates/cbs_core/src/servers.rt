@@ -9,6 +9,7 @@ ghost use Rattle.cbs_steps.specs.Waiting.{NoneReady, span_of};
 ghost use Rattle.cbs_steps.specs.Promises.{promised_by};
 ghost use Rattle.cbs_steps.specs.Servers.{MayCharge};
 ghost use Rattle.cbs_ready.specs.ReadyList.{listed, IsOrdered};
+ghost use Rattle.cbs_core.specs.Held.{with_job_ended};
 ghost use Rattle.cbs_core.specs.Invariant.{ListsReady};
 ghost use Rattle.cbs_core.specs.Waiting.{Keeps};
 ghost use Rattle.cbs_steps.specs.Setups.{terms_of};
@@ -215,6 +216,24 @@ impl<A: Allocator> Servers<A> {
         }
     }
 
+    /// Counts the first unfinished job of a server as finished, if its last unit is not to come.
+    #[tactic(auto, using(cbs_lists::proofs::Lists::written))]
+    #[inline(never)]
+    pub fn end_job(&mut self, server: u16)
+        requires within { server < length self.old }
+        requires active { is_active (face_at self.old server) ≡ true }
+        ensures { self.new ≡ changed_at with_job_ended self.old server }
+    {
+        let it = &mut self.servers[usize::from(server)];
+        it.end_job();
+        // A job behind it keeps the server at its place in the list.
+        if it.is_active() {
+            return;
+        }
+        self.ready.leave(server);
+        self.waits = waits_of(&self.servers);
+    }
+
     /// Replenishes every server that is due at tick `now`.
     #[inline]
     pub fn replenish(&mut self, now: u64)
@@ -289,6 +308,17 @@ impl<A: Allocator> Servers<A> {
     {
         self.servers[usize::from(server)].close();
     }
+}
+
+/// Returns the first ticks for which the throttled ones of these servers wait.
+fn waits_of(servers: &[Server]) -> Waits
+    ensures { Keeps result servers.now }
+{
+    let mut waits = Waits::new();
+    for it in servers {
+        waits.note(it);
+    }
+    waits
 }
 
 /// Replenishes every server that is due at tick `now`, and lists those that are then ready. Returns the first ticks for

@@ -1,6 +1,6 @@
 //! The jobs of all servers, in one queue for each server.
 
-ghost use Rattle.std.specs.Prelude.{◌≡◌, ◌+◌, ◌%◌, ◌^◌, ◌<◌, [], ◌∷◌, ◌++◌, length, replicate, drop, IfOk, OnOk, IsOk};
+ghost use Rattle.std.specs.Prelude.{◌≡◌, ◌+◌, ◌%◌, ◌^◌, ◌<◌, [], ◌∷◌, ◌++◌, length, replicate, drop, Some, IfOk, OnOk, IsOk};
 ghost use Rattle.std.specs.List.{sum_by, AllByRecursion};
 ghost use Rattle.cbs_queues.specs.Queues.{front_output, room_of, KeepsRoom, list_at, jobs_run, result_run};
 ghost use Rattle.cbs_lists.specs.Lists.{changed_at};
@@ -132,5 +132,14 @@ impl<W: Work, A: Allocator> Queues<W, A> {
         let result = job.output();
         self.jobs.pop(server);
         Some(result)
+    }
+    /// Takes the first job of a server out of its queue, however many units it has left. Returns its output so far.
+    pub fn end_first(&mut self, server: u16) -> u64
+        requires { 0 < length (list_at self.old.lists server) }
+        ensures lists { self.new.lists ≡ changed_at (drop 1) self.old.lists server }
+        ensures output { front_output W.meaning (list_at self.old.lists server) ≡ Some result }
+        ensures kept { KeepsRoom self.old.rooms self.new.rooms }
+    {
+        self.jobs.pop(server).job.output()
     }
 }

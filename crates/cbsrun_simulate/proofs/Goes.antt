@@ -124,6 +124,7 @@ module _ {W : Type 0} (work : Meaning W) (job : Release → W) where
       runs = agrees.world.runs;
       latest = agrees.world.latest;
     };
+    unit = agrees.unit;
   })
 
   module _ (until : ℕ) (M : History W) where

@@ -2,7 +2,7 @@ use Rattle.std.proofs.Common.{◌+◌, arith, refl}
 use Rattle.cbs_lists.proofs.Lists.{counted}
 use Rattle.cbs_core.specs.Held.{charged_at}
 use Rattle.cbs_core.proofs.Agreements.{charge_agrees, charge_answered}
-use Rattle.cbs_core.proofs.Cores.{core_charged, may_charge, running_there}
+use Rattle.cbs_core.proofs.Cores.{core_charged, charged_may, may_charge, running_there}
 use Rattle.cbs_core.proofs.Effects.{charged_same}
 use Rattle.cbs_steps.specs.declared.step.Step.TheVariants as step
 use Rattle.cbs_core.proofs.LawfulCores.{makes_new}
@@ -45,3 +45,9 @@ returns-clause-makes g c =
 pub returns-clause-jobs : goal.returns-clause-jobs
 returns-clause-jobs g c = charged_same c.self.view_is (c.self.inside.clock + c.args.ticks) c.charge-for_unit.new.self c.charge.new.self c.self.inside.queues.lists c.self.inside.queues.rooms
     (c.self.inside.clock + c.args.ticks) c.args.ticks c.charge-for_unit.result c.args.server c.charge.ensures refl
+
+pub returns-clause-ends : goal.returns-clause-ends
+returns-clause-ends g c = λ t.
+    let runs = rw (← c.self.view_is) at c.requires.running in
+    rw (← c.self.view_is, c.charge-for_unit.ensures.kept) (charged_may c.self.invariant c.args.server c.args.ticks c.charge-for_unit.new.self.charged c.charge.new.self c.self.inside.queues.lists c.self.inside.queues.rooms
+    runs c.requires.some t)

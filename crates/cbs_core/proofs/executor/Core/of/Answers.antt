@@ -15,6 +15,7 @@ pub returns-clause-start : goal.returns-clause-start
 returns-clause-start g c = rw c.new-3.ensures record {
   world = start_agrees g.W.Work.meaning (terms_of c.args.modes.now c.args.plan.now.rates) c.args.backlog c.len.result c.in-Ok.servers
       c.in-Ok-new.queues.lists c.in-Ok-new.queues.rooms c.in-Ok.ensures.servers c.len.ensures.value c.in-Ok-new.ensures.empty;
+  unit = λ e. cc;
 }
 
 pub returns-clause-on_time : goal.returns-clause-on_time

@@ -1,6 +1,6 @@
 use Rattle.std.proofs.Common.{refl, rules}
 use Rattle.std.proofs.lemmas.Grind.{common_steps}
-use Rattle.cbs_core.proofs.Agreements.{submit_replied, submit_left, submit_accepted}
+use Rattle.cbs_core.proofs.Agreements.{refused_still, submit_replied, submit_left, submit_accepted}
 use Rattle.cbs_core.proofs.Cores.{queue_there, budgets_kept}
 use Rattle.cbs_core.proofs.Refusals.{free_accepts, accepts_free, refusal_named}
 use Rattle.cbs_steps.specs.declared.step.Step.TheVariants as step
@@ -23,7 +23,8 @@ submit_reserved-requires g c =
 
 pub returns-in-Some-clause-tries : goal.returns-in-Some-clause-tries
 returns-in-Some-clause-tries g c = rw (refusal_named c.self.view_is c.args.server c.in-Some.error c.in-Some.ensures)
-    (makes_still _ c.self.view_is c.self.invariant (step.Submit c.args.server c.args.task) _ (λ M agrees. (
+    (makes_still _ c.self.view_is c.self.invariant (step.Submit c.args.server c.args.task) _
+    (λ M agrees. refused_still c.self.view_is agrees c.args.server c.args.task _ c.in-Some.ensures) (λ M agrees. (
       submit_replied c.self.view_is agrees c.args.server c.args.task _ c.in-Some.ensures,
       submit_left c.self.view_is agrees c.args.server c.args.task _ c.in-Some.ensures,
     )))

@@ -1,0 +1,4 @@
+pub mod CutLists
+mod Cuts
+mod Examples
+pub mod Hindsight
