@@ -284,10 +284,10 @@ impl<W: Work, A: Allocator> Core<W, A> {
         if server >= self.servers.len() {
             return Err(CoreError::NoSuchServer);
         }
-        if !self.last.is_of(server, self.clock) || !self.last.unfinished {
-            return Err(CoreError::NotRunning);
+        if self.last.is_of(server, self.clock) && self.last.unfinished {
+            return Ok(self.finish_running(server));
         }
-        Ok(self.finish_running(server))
+        Err(CoreError::NotRunning)
     }
 
     /// Ends the job that got the last unit, which is one of `server` and may be ended.

@@ -2,6 +2,7 @@
 
 mod calls;
 mod charges;
+mod early_ends;
 mod errors;
 mod in_time;
 mod jobs;

@@ -20,6 +20,8 @@ pub enum Row {
     Advance(u64, Result<(), CoreError>),
     /// A charge of a server: its number, and the ticks.
     Charge(u16, u64, Result<(), CoreError>),
+    /// An early end of the job that got the last unit: its server, and the number and the output of the job.
+    Finish(u16, Result<(u64, u64), CoreError>),
     Run(Ran),
     /// A run of a unit that is not the last of a server's first job.
     Unit(u16),
@@ -124,6 +126,10 @@ pub fn does<W: Work, A: Allocator>(
         }
         Row::Charge(server, ticks, wanted) => {
             same_at(rt, at, "charge", core.charge(server, ticks), wanted);
+        }
+        Row::Finish(server, wanted) => {
+            let ended = core.finish(server).map(|it| (it.seq, it.result));
+            same_at(rt, at, "finish", ended, wanted);
         }
         Row::Run(wanted) => same_at(rt, at, "run", core.run(), wanted),
         Row::Unit(server) => {
