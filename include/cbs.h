@@ -248,7 +248,7 @@ enum {
     CBS_HOUSE_NO_SUCH_SERVER = CBS_HOUSE | 4,
     CBS_HOUSE_CLOCK_END = CBS_HOUSE | 5,          /* the clock would pass its end, 10^12 */
     CBS_HOUSE_STALLED = CBS_HOUSE | 6,            /* no call returns it */
-    CBS_HOUSE_NOT_RUNNING = CBS_HOUSE | 7,        /* a charge of a server that did not run the last unit, or too late */
+    CBS_HOUSE_NOT_RUNNING = CBS_HOUSE | 7,        /* a charge or a finish of a server that did not run the last unit, or too late */
 
     CBS_TASK_EMPTY_JOB = CBS_TASK | 1,            /* 0 units */
     CBS_TASK_TOO_LONG = CBS_TASK | 2,             /* more than 1000000 units */
@@ -280,7 +280,7 @@ uint32_t cbs_open(const struct cbs_server *servers, size_t n, uint64_t backlog, 
  * a second free is none. House and clients may be freed in any order.
  * A client that is freed ends, unless it has ended: its server closes once all that the client sent is taken. That end
  * is sent at a full ring, too. With a freed house everything is lost that it has not told as done: the jobs that it had
- * taken, and those that stand in the rings of its clients. */
+ * taken, and those that stand in the rings of its clients. cbs_free_unfinished gives their tokens back. */
 void cbs_free(struct cbs_handle *handle);
 
 /* Looks whether these n servers would be opened together, and opens nothing.
@@ -327,6 +327,16 @@ uint32_t cbs_advance(struct cbs_handle *house, uint64_t ticks);
  * Refuses, in this order, by CBS_HOUSE_NO_SUCH_SERVER; by CBS_HOUSE_NOT_RUNNING unless the server ran the last unit, and
  * no tick has passed since but what it was charged for that; and by CBS_HOUSE_CLOCK_END if the clock would pass 10^12. */
 uint32_t cbs_charge(struct cbs_handle *house, uint16_t server, uint64_t ticks);
+
+/* Ends the job that got the last unit of all, although it has units left: a frame that is late, say.
+ * The job leaves its queue, and counts as finished. In hindsight it had only the units that it got,
+ * from its send on: no clock, budget or deadline changes, the server may still be charged for the
+ * unit, and what was promised of others is kept. Call this in the unit, or after it and before the
+ * house is asked for anything but a charge. The job's token is the program's: no call tells it again.
+ * Refuses, in this order, by CBS_HOUSE_NO_SUCH_SERVER; and by CBS_HOUSE_NOT_RUNNING unless the server
+ * ran the last unit, which was not the last of its job, and no tick has passed since but what it was
+ * charged, and no job of this server was taken since. */
+uint32_t cbs_finish(struct cbs_handle *house, uint16_t server);
 
 /* Writes how many ticks a server was charged, in all, and at most for one unit. Refuses by CBS_HOUSE_NO_SUCH_SERVER. */
 uint32_t cbs_charges(struct cbs_handle *house, uint16_t server, uint64_t *total, uint64_t *most);
@@ -459,6 +469,38 @@ uint32_t cbs_end(struct cbs_handle *client);
 /* Writes how many messages of this client stand in its ring, not taken yet. While the house polls there may be fewer when
  * the call is over. */
 uint32_t cbs_waiting(struct cbs_handle *client, uint64_t *out);
+
+/* ---- At the end, by the serving thread ---- */
+
+/* Gives the token of each job that is not finished back, those in the rings too, and frees the house: `back` is called
+ * with the context, the job's server and its token. The units of these jobs are not done. The clients have ended, or
+ * were freed, or send nothing more: whoever sends on may keep this going.
+ * Refuses by CBS_HOUSE_OUT_OF_MEMORY, if there was no memory to take a job, and by CBS_HOUSE_CLOCK_END, if the clock of
+ * the house stands at its end. The house is not freed then, and this may be called again. */
+static inline uint32_t cbs_free_unfinished(struct cbs_handle *house,
+                                           void (*back)(void *context, uint16_t server, uint64_t token),
+                                           void *context) {
+    struct cbs_turn turn;
+    uint32_t status;
+    do {
+        status = cbs_turn(house, &turn);
+        if (status != CBS_OK) {
+            return status;
+        }
+        if (turn.ran.kind == CBS_RUN_UNIT) {
+            status = cbs_finish(house, turn.ran.server);
+        }
+        if (turn.ran.kind == CBS_RUN_UNIT || turn.ran.kind == CBS_RUN_DONE) {
+            back(context, turn.ran.server, turn.ran.token);
+        } else if (turn.ran.kind == CBS_RUN_CLOCK_END) {
+            return CBS_HOUSE_CLOCK_END;
+        } else if (turn.out_of_memory) {
+            return CBS_HOUSE_OUT_OF_MEMORY;
+        }
+    } while (turn.took > 0 || turn.advanced > 0 || turn.ran.kind != CBS_RUN_IDLE);
+    cbs_free(house);
+    return status;
+}
 
 #ifdef __cplusplus
 }

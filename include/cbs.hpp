@@ -112,6 +112,17 @@ struct Unit {
     std::uint64_t seq;   // the job's number among those of its server, from 0
     std::uint64_t token; // the plain token, and 0 for a job that is a callable
     bool last;           // whether this is the last unit of the job
+
+    // Ends the job with this unit, although the job has units left: a frame that is late, say. In
+    // hindsight the job had only the units that it got, so no promise of others is broken. Call
+    // this while the unit is done: after that, and in a job's last unit, this changes nothing.
+    void finish() const noexcept {
+        if (ends != nullptr) {
+            *ends = true;
+        }
+    }
+
+    bool *ends = nullptr; // the header's: whether the job ends with this unit
 };
 
 // Does the units of plain tokens. The unit of a job that is a callable calls the job. A plain token
@@ -954,9 +965,37 @@ private:
         }
     }
 
+    // Ends the job of a unit, if the unit said so, when the unit has been done or has thrown.
+    class Ending {
+    public:
+        Ending(House &of, std::size_t server) noexcept : house(of), at(server) {}
+        Ending(const Ending &) = delete;
+        Ending &operator=(const Ending &) = delete;
+        ~Ending() {
+            if (wanted) {
+                cbs_finish(house.handle.get(), static_cast<std::uint16_t>(at));
+                house.served[at].current.reset();
+            }
+        }
+        bool wanted = false;
+
+    private:
+        House &house;
+        std::size_t at;
+    };
+
     // Does a unit that cbs.h has told.
     Unit does(const cbs_unit &told, const Work &work) {
-        const Unit unit{told.server, told.seq, told.token, told.kind == CBS_RUN_DONE};
+        Unit unit{told.server, told.seq, told.token, told.kind == CBS_RUN_DONE};
+        Ending ending(*this, unit.server);
+        unit.ends = unit.last ? nullptr : &ending.wanted;
+        does_unit(unit, work);
+        unit.ends = nullptr;
+        return unit;
+    }
+
+    // Does a unit: calls its job, or else the work.
+    void does_unit(const Unit &unit, const Work &work) {
         Served &mine = served[unit.server];
         if (!mine.current) {
             mine.current = shared->lanes[unit.server].take(unit.seq);
@@ -972,7 +1011,6 @@ private:
         } else if (work) {
             work(unit);
         }
-        return unit;
     }
 
     cbs_live *figures() const noexcept { return kept ? kept->get() : nullptr; }

@@ -568,7 +568,44 @@ static void figures_of_a_loop() {
     CHECK(spread.of_power(65) == 0);
 }
 
+// Jobs that end early: a callable is freed at once, also if its unit throws; a plain token ends, too.
+static void ends_early() {
+    cbs::Plan plan;
+    plan.admit(2, 5, cbs::Mode::Soft);
+    auto [house, clients] = plan.open(4, 4);
+    const auto held = std::make_shared<int>(0);
+    int units = 0;
+    const auto late = [held, &units](const cbs::Unit &unit) {
+        units++;
+        unit.finish();
+        if (unit.seq == 1) {
+            throw std::runtime_error("late");
+        }
+    };
+    CHECK(clients[0].send(late, 20) == cbs::Send::Sent);
+    CHECK(clients[0].send(late, 20) == cbs::Send::Sent);
+    CHECK(clients[0].send(7, 20) == cbs::Send::Sent);
+    CHECK(clients[0].send(late, 1) == cbs::Send::Sent); // its last unit: nothing ends but the job
+    CHECK(held.use_count() == 5);                       // here, in late, and in three jobs
+    CHECK(!house.turn().ran.unit->last && units == 1);
+    CHECK(held.use_count() == 4 && house.view(0).finished == 1);
+    bool thrown = false;
+    try {
+        house.turn();
+    } catch (const std::runtime_error &) {
+        thrown = true;
+    }
+    CHECK(thrown && held.use_count() == 3 && house.view(0).finished == 2);
+    const auto work = [](const cbs::Unit &unit) { unit.finish(); };
+    const cbs::Turn turn = house.turn(work);
+    CHECK(turn.ran.unit->token == 7 && house.view(0).finished == 3);
+    turn.ran.unit->finish(); // after the unit it changes nothing
+    CHECK(house.turn().ran.unit->last && units == 3 && held.use_count() == 2);
+    CHECK(house.view(0).finished == 4 && house.now() == 4);
+}
+
 int main() {
+    ends_early();
     figures();
     figures_of_a_loop();
     plans();

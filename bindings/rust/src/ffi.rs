@@ -169,6 +169,7 @@ extern "C" {
     fn cbs_run(house: *mut Raw, out: *mut Unit) -> u32;
     fn cbs_advance(house: *mut Raw, ticks: u64) -> u32;
     fn cbs_charge(house: *mut Raw, server: u16, ticks: u64) -> u32;
+    fn cbs_finish(house: *mut Raw, server: u16) -> u32;
     fn cbs_charges(house: *mut Raw, server: u16, total: *mut u64, most: *mut u64) -> u32;
     fn cbs_now(house: *mut Raw, out: *mut u64) -> u32;
     fn cbs_idle_span(house: *mut Raw, out: *mut u64) -> u32;
@@ -312,6 +313,11 @@ pub(crate) fn advance(house: &mut Handle, ticks: u64) -> Result<(), Status> {
 #[inline]
 pub(crate) fn charge(house: &mut Handle, server: u16, ticks: u64) -> Result<(), Status> {
     answered(unsafe { cbs_charge(house.0.get(), server, ticks) }, ())
+}
+
+#[inline]
+pub(crate) fn finish(house: &mut Handle, server: u16) -> Result<(), Status> {
+    answered(unsafe { cbs_finish(house.0.get(), server) }, ())
 }
 
 #[inline]

@@ -136,16 +136,11 @@ impl<T> Served<T> {
     /// Returns the token of the job of this number, which gets a unit.
     fn token(&mut self, seq: u64, last: bool) -> Token<'_, T> {
         if self.current.is_none() {
+            // The client puts a token down before it sends.
             self.current = self.tokens.take(seq);
             self.begun = seq + 1;
         }
-        let current = &mut self.current;
-        let put = "the client puts a token down before it sends";
-        if last {
-            Token::Last(current.take().expect(put))
-        } else {
-            Token::Kept(current.as_mut().expect(put))
-        }
+        Token::of(&mut self.current, last)
     }
 
     /// Takes the tokens of all jobs that are not finished, with their numbers, once the library's house is gone.
@@ -221,6 +216,7 @@ impl<T> House<T> {
             seq: unit.seq,
             token: self.servers[server].token(unit.seq, last),
             doer: &self.doer,
+            handle: &mut self.handle,
         }
     }
 

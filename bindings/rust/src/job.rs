@@ -8,6 +8,7 @@ use std::any::Any;
 use std::error::Error;
 use std::fmt;
 use std::future::Future;
+use std::ops::ControlFlow;
 use std::panic::{catch_unwind, AssertUnwindSafe};
 use std::pin::Pin;
 use std::sync::{Arc, Condvar, Mutex, MutexGuard, PoisonError};
@@ -39,17 +40,49 @@ pub struct Job(Box<dyn Step + Send>);
 
 /// What is done at a unit.
 trait Step {
-    fn step(&mut self, last: bool);
+    /// Does the unit. Returns whether the job ends with it, although it was not the last.
+    fn step(&mut self, last: bool) -> bool;
 }
 
 impl Job {
     /// Makes a job of a closure, and the handle of its result.
     ///
-    /// A closure that panics ends its job, and neither the house nor the other jobs: what is left of its units does nothing.
-    pub fn new<R, F>(work: F) -> (Job, JobHandle<R>)
+    /// A closure that panics ends its job, and neither the house nor the other jobs: the units that are left are not run.
+    pub fn new<R, F>(mut work: F) -> (Job, JobHandle<R>)
     where
         R: Send + 'static,
         F: FnMut(u32) -> R + Send + 'static,
+    {
+        Job::breakable(move |unit| ControlFlow::Continue(work(unit)))
+    }
+
+    /// Makes a job of a closure that may end early, and the handle of its result. If a call returns
+    /// [`ControlFlow::Break`], the job ends with this unit, as by [`Unit::finish`]. Such a job has no result: its handle gives
+    /// [`JobError::EndedEarly`].
+    ///
+    /// ```
+    /// use cbs::{Job, JobError, Mode, Plan};
+    /// use std::ops::ControlFlow;
+    ///
+    /// let mut plan = Plan::new();
+    /// plan.admit(1, 10, Mode::Soft)?;
+    /// let (mut house, mut clients) = plan.open(4, 4)?;
+    /// let is_late = true;
+    /// let (frame, shown) = Job::breakable(move |unit| match is_late {
+    ///     true => ControlFlow::Break(()),
+    ///     false => ControlFlow::Continue(unit),
+    /// });
+    /// clients[0].send(frame, 20)?;
+    /// drop(clients);
+    /// house.run_jobs()?;
+    /// assert!(matches!(shown.join(), Err(JobError::EndedEarly)));
+    /// assert_eq!(house.now(), 1);
+    /// # Ok::<(), Box<dyn std::error::Error>>(())
+    /// ```
+    pub fn breakable<R, F>(work: F) -> (Job, JobHandle<R>)
+    where
+        R: Send + 'static,
+        F: FnMut(u32) -> ControlFlow<(), R> + Send + 'static,
     {
         let shared = Arc::new(Shared {
             state: Mutex::new(State::Waits(None)),
@@ -57,7 +90,7 @@ impl Job {
         });
         let handle = JobHandle(Arc::clone(&shared));
         let closure = Closure {
-            work: Some(work),
+            work,
             unit: 0,
             shared,
         };
@@ -76,7 +109,9 @@ impl Unit<'_, Job> {
     pub fn run(self) {
         self.done_by(|mut unit| {
             let last = unit.is_last();
-            unit.token.0.step(last);
+            if unit.token.0.step(last) {
+                drop(unit.finish());
+            }
         });
     }
 }
@@ -127,26 +162,27 @@ impl<R> Shared<R> {
 }
 
 struct Closure<R, F> {
-    /// None once it panicked.
-    work: Option<F>,
+    work: F,
     unit: u32,
     shared: Arc<Shared<R>>,
 }
 
-impl<R, F: FnMut(u32) -> R> Step for Closure<R, F> {
-    fn step(&mut self, last: bool) {
+impl<R, F: FnMut(u32) -> ControlFlow<(), R>> Step for Closure<R, F> {
+    fn step(&mut self, last: bool) -> bool {
         let unit = self.unit;
         self.unit += 1;
-        if let Some(work) = &mut self.work {
-            match catch_unwind(AssertUnwindSafe(|| work(unit))) {
-                Ok(result) if last => self.shared.end(Ok(result)),
-                Ok(_) => {}
-                Err(payload) => {
-                    self.work = None;
-                    self.shared.end(Err(JobError::Panicked(Payload(payload))));
+        let error = match catch_unwind(AssertUnwindSafe(|| (self.work)(unit))) {
+            Ok(ControlFlow::Continue(result)) => {
+                if last {
+                    self.shared.end(Ok(result));
                 }
+                return false;
             }
-        }
+            Ok(ControlFlow::Break(())) => JobError::EndedEarly,
+            Err(payload) => JobError::Panicked(Payload(payload)),
+        };
+        self.shared.end(Err(error));
+        true
     }
 }
 
@@ -290,6 +326,8 @@ pub enum JobError {
     Lost,
     /// Its closure panicked, with this.
     Panicked(Payload),
+    /// It ended early, and so has no result: its closure asked for that ([`Job::breakable`]).
+    EndedEarly,
     /// The job had not ended when the time of [`JobHandle::join_timeout`] was over.
     TimedOut,
     /// The join was called in a unit, and the job had not ended. The serving thread might have waited for itself, so the join
@@ -305,6 +343,7 @@ impl fmt::Display for JobError {
                 Some(text) => write!(f, "the job panicked: {text}"),
                 None => f.write_str("the job panicked"),
             },
+            JobError::EndedEarly => f.write_str("the job ended early"),
             JobError::TimedOut => f.write_str("the job has not ended in time"),
             JobError::InUnit => {
                 f.write_str("a unit does not wait for a job, lest it wait for its own house")

@@ -1,4 +1,6 @@
 use crate::doing::Doer;
+use crate::error::not_answered;
+use crate::ffi::{self, Handle};
 use std::fmt;
 use std::ops::{Deref, DerefMut};
 
@@ -12,6 +14,7 @@ pub struct Unit<'h, T> {
     /// What was sent with the job.
     pub token: Token<'h, T>,
     pub(crate) doer: &'h Doer,
+    pub(crate) handle: &'h mut Handle,
 }
 
 impl<T> fmt::Debug for Unit<'_, T> {
@@ -28,16 +31,43 @@ impl<T> Unit<'_, T> {
     /// Returns whether it is the last unit of the job.
     #[must_use]
     pub fn is_last(&self) -> bool {
-        matches!(self.token, Token::Last(_))
+        self.token.is_last()
     }
 
     /// Returns the token, if it is the last unit of the job. The house keeps it otherwise.
     #[must_use]
     pub fn into_token(self) -> Option<T> {
-        match self.token {
-            Token::Kept(_) => None,
-            Token::Last(token) => Some(token),
+        self.is_last().then(|| self.token.into_inner())
+    }
+
+    /// Ends the job with this unit, although it has units left, and returns its token: a frame that is late, say. The job
+    /// leaves its queue, and counts as finished.
+    ///
+    /// In hindsight the job had only the units that it got, from its send on. So no clock, budget or deadline changes, and
+    /// what was promised of others is kept. The server is still charged for this unit. If it is the last unit of the job
+    /// anyway, the call returns the token and does nothing more.
+    ///
+    /// ```
+    /// use cbs::{Mode, Plan, Ran};
+    ///
+    /// let mut plan = Plan::new();
+    /// plan.admit(1, 10, Mode::Soft)?;
+    /// let (mut house, mut clients) = plan.open(4, 4)?;
+    /// clients[0].send("a late frame", 20)?;
+    /// clients[0].send("a frame", 20)?;
+    /// if let Ran::Unit(unit) = house.turn().ran {
+    ///     assert_eq!(unit.finish(), "a late frame"); // after one unit of twenty
+    /// }
+    /// assert_eq!(house.view(0)?.finished, 1);
+    /// assert!(matches!(house.turn().ran, Ran::Unit(unit) if *unit.token == "a frame"));
+    /// # Ok::<(), Box<dyn std::error::Error>>(())
+    /// ```
+    pub fn finish(self) -> T {
+        if !self.is_last() {
+            // The unit has the house, so no call came between the two.
+            ffi::finish(self.handle, self.server as u16).unwrap_or_else(|status| not_answered(status));
         }
+        self.token.into_inner()
     }
 
     /// Has `work` do the unit, and returns what `work` returns.
@@ -76,39 +106,68 @@ impl<T> Unit<'_, T> {
 }
 
 /// The token of a job that gets a unit: it is used as the value itself.
-pub enum Token<'h, T> {
-    /// More units are left. The house keeps it.
-    Kept(&'h mut T),
-    /// It is the last unit. The token is the program's.
+///
+/// The house keeps it as long as units are left. With the last unit, or with the one by which the job [ends
+/// early](Unit::finish), it is the program's.
+pub struct Token<'h, T>(Held<'h, T>);
+
+/// Who has a token.
+enum Held<'h, T> {
+    /// More units are left: the house has it in this place, which is filled.
+    Kept(&'h mut Option<T>),
+    /// It is the last unit.
     Last(T),
+}
+
+const FILLED: &str = "the house keeps the token of a job that is not finished";
+
+impl<'h, T> Token<'h, T> {
+    /// Returns the token in this place of the house's. It is taken out of the place with the `last` unit.
+    pub(crate) fn of(place: &'h mut Option<T>, last: bool) -> Token<'h, T> {
+        assert!(place.is_some(), "{FILLED}");
+        Token(if last {
+            Held::Last(place.take().expect(FILLED))
+        } else {
+            Held::Kept(place)
+        })
+    }
+
+    fn is_last(&self) -> bool {
+        matches!(self.0, Held::Last(_))
+    }
+
+    /// Returns the value, which the house keeps no longer.
+    fn into_inner(self) -> T {
+        match self.0 {
+            Held::Kept(place) => place.take().expect(FILLED),
+            Held::Last(token) => token,
+        }
+    }
 }
 
 impl<T> Deref for Token<'_, T> {
     type Target = T;
 
     fn deref(&self) -> &T {
-        match self {
-            Token::Kept(token) => token,
-            Token::Last(token) => token,
+        match &self.0 {
+            Held::Kept(place) => place.as_ref().expect(FILLED),
+            Held::Last(token) => token,
         }
     }
 }
 
 impl<T> DerefMut for Token<'_, T> {
     fn deref_mut(&mut self) -> &mut T {
-        match self {
-            Token::Kept(token) => token,
-            Token::Last(token) => token,
+        match &mut self.0 {
+            Held::Kept(place) => place.as_mut().expect(FILLED),
+            Held::Last(token) => token,
         }
     }
 }
 
 impl<T> fmt::Debug for Token<'_, T> {
     fn fmt(&self, f: &mut fmt::Formatter<'_>) -> fmt::Result {
-        f.write_str(match self {
-            Token::Kept(_) => "Kept(..)",
-            Token::Last(_) => "Last(..)",
-        })
+        f.write_str(if self.is_last() { "Last(..)" } else { "Kept(..)" })
     }
 }
 

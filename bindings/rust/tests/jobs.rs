@@ -2,6 +2,7 @@
 
 use cbs::{Client, Ended, House, Job, JobError, JobHandle, Mode, Plan};
 use std::future::Future;
+use std::ops::ControlFlow;
 use std::pin::Pin;
 use std::sync::Arc;
 use std::task::{Context, Poll, Wake};
@@ -110,4 +111,42 @@ fn a_handle_that_is_dropped_ends_nothing() {
         })
         .unwrap();
     assert_eq!((units, Arc::strong_count(&done)), (2, 1));
+}
+
+#[test]
+fn a_job_ends_early() {
+    let (mut house, mut client) = open();
+    let (job, handle) = Job::breakable(|unit| match unit {
+        2 => ControlFlow::Break(()),
+        _ => ControlFlow::Continue(unit),
+    });
+    client.send(job, 100).unwrap();
+    let (job, whole) = Job::breakable(|unit| ControlFlow::<(), _>::Continue(unit));
+    client.send(job, 2).unwrap();
+    drop(client);
+    assert_eq!(house.run_jobs(), Ok(Ended::Closed));
+    assert!(matches!(handle.join(), Err(JobError::EndedEarly)));
+    assert_eq!(whole.join().unwrap(), 1);
+    assert_eq!(house.now(), 5); // three units and two
+}
+
+#[test]
+fn a_job_that_breaks_in_its_last_unit_has_no_result() {
+    let (mut house, mut client) = open();
+    let (job, handle) = Job::breakable(|_unit| ControlFlow::<(), u32>::Break(()));
+    client.send(job, 1).unwrap();
+    drop(client);
+    assert_eq!(house.run_jobs(), Ok(Ended::Closed));
+    assert!(matches!(handle.join(), Err(JobError::EndedEarly)));
+}
+
+#[test]
+fn a_panic_ends_its_job_at_once() {
+    let (mut house, mut client) = open();
+    let (job, handle) = Job::new(|_unit| -> () { panic!("the first unit") });
+    client.send(job, 500).unwrap();
+    drop(client);
+    assert_eq!(house.run_jobs(), Ok(Ended::Closed));
+    assert!(matches!(handle.join(), Err::<(), _>(JobError::Panicked(_))));
+    assert_eq!(house.now(), 1);
 }
