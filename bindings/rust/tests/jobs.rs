@@ -83,7 +83,7 @@ fn a_panic_is_its_jobs_alone() {
         unit.run();
         units += 1;
     });
-    assert_eq!((ended, units), (Ok(Ended::Closed), 6));
+    assert_eq!((ended, units), (Ok(Ended::Closed), 4)); // the first ends with its panic
     assert_eq!(handle.join().unwrap(), 1);
     match panic_handle.join() {
         Err(JobError::Panicked(payload)) => {
