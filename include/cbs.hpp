@@ -12,7 +12,7 @@
 // WHAT IS WHAT. A Plan has servers that fit together. A Plan opens a House, for the serving thread,
 // and a Client for each server, for the threads that send. A Job is a callable: the serving thread
 // calls the job once for each of the job's units. A plain token is a number in the place of a job.
-// A Realtime serves a house in real time.
+// A Realtime serves a house in real time. A Live reads figures of the servers meanwhile.
 //
 // WHO OWNS WHAT. Houses, clients and jobs are moved and never copied, and free themselves. A client
 // that is freed ends. Every send, every end and every client that is freed wakes the house. A house

@@ -270,8 +270,8 @@ static inline void cbs_live_close(struct cbs_live *live) {
     free(live->came);
 }
 
-/* Writes the figures of a server as they stand. From any thread; the lock is held for this copy.
- * What units are counted have ended. Refuses by CBS_HOUSE_NO_SUCH_SERVER. */
+/* Writes the figures of a server as they stand: of units that have ended. From any thread; the lock
+ * is held for this copy. Refuses by CBS_HOUSE_NO_SUCH_SERVER. */
 static inline uint32_t cbs_live_read(struct cbs_live *live, size_t server,
                                      struct cbs_figures *figures) {
     if (server >= live->servers) {

@@ -512,8 +512,8 @@ static void figures() {
     plan.admit(1, 4, cbs::Mode::Throttled);
     auto [house, clients] = plan.open(8, 8);
     throws(CBS_CALL_NOT_OPEN, [] { cbs::House().live(); });
-    const cbs::Live live = house.live({"control"});
-    CHECK(live.servers() == 2 && live.name(0) == "control" && live.name(1) == "1");
+    const cbs::Live live = house.live({"control", "video"});
+    CHECK(live.servers() == 2 && live.name(0) == "control" && live.name(1) == "video");
     throws(CBS_HOUSE_NO_SUCH_SERVER, [&] { live.read(2); });
     throws(CBS_HOUSE_NO_SUCH_SERVER, [&] { live.name(2); });
     std::atomic<bool> runs{true};
@@ -551,6 +551,7 @@ static void figures_of_a_loop() {
     plan.admit(2, 5, cbs::Mode::Soft);
     auto [house, clients] = plan.open(1, 8);
     const cbs::Live live = house.live();
+    CHECK(live.servers() == 1 && live.name(0) == "0");
     cbs::Pacer pacer = house.pace(1us, cbs::Rounding::Up, 0ns);
     CHECK(clients[0].send(7, 2) == cbs::Send::Sent);
     CHECK(house.next(pacer, 0ns).kind == cbs::Next::Kind::Unit);
