@@ -375,11 +375,11 @@ module _ {W : Type 0} (work : Meaning W) where
   ends_beside M x s beside h = elim (cases_Bool (does_nothing work M.setup.backlog (world_after work M) x)) [
     | inl t ↦ rw t h
     | inr f ↦ rw f record {
-        later = x ∷ h.later;
-        earlier = h.earlier;
-        seq = h.seq;
-        at = record { steps = ap (λ L. x ∷ L) h.at.steps; unit = h.at.unit; beside = (beside, h.at.beside) };
-      }
+      later = x ∷ h.later;
+      earlier = h.earlier;
+      seq = h.seq;
+      at = record { steps = ap (λ L. x ∷ L) h.at.steps; unit = h.at.unit; beside = (beside, h.at.beside) };
+    }
   ]
 
   pub ends_still : (M : History W) (x : Step W) (s : ℕ) → IsStill M x → EndsWithUnit work (effective work M) s → EndsWithUnit work (effective work (M ⊕ x)) s
