@@ -27,7 +27,7 @@ use Rattle.cbs_host.specs.declared.poll.Poll.{Poll}
 use Rattle.cbs_host.specs.declared.poll.Poll.TheVariants.{Nothing, Took, Closed, Full, OutOfMemory, NoSuchServer}
 use Rattle.cbs_results.specs.Collected.{AllShelvesSame}
 use Rattle.cbs_clients.specs.Rings.{Looked}
-use Rattle.cbs_clients.specs.Houses.{Seat, seat_at, core_of, rings_of, received, known, results_of, handed_of, Made, LooksOnly, SameHouse, Collects, Polled}
+use Rattle.cbs_clients.specs.Houses.{Seat, seat_at, core_of, rings_of, received, known, results_of, handed_of, early_of, Made, LooksOnly, SameHouse, Collects, Polled}
 use Rattle.cbs_clients.specs.Calls.{PollOf}
 use Rattle.cbs_clients.specs.Messages.{jobs_among}
 use Rattle.cbs_clients.specs.Steps.{message_of, messages_of}
@@ -110,6 +110,7 @@ module _ {W A : Type 0} {g : Ghosts W} (work : Meaning W) where
           (messages_of s (xs ++ ys) ++ known c s)
           (ap (λ ms. ms ++ known c s) (messages_of-append s xs ys) ∙ append_assoc (messages_of s xs) (messages_of s ys) (known c s));
       handed = (q.seats s).handed ∙ (p.seats s).handed;
+      early = (q.seats s).early ∙ (p.seats s).early;
     };
   }
 
@@ -119,7 +120,7 @@ module _ {W A : Type 0} {g : Ghosts W} (work : Meaning W) where
     keeps_time = λ M agrees. tt;
     keeps_pace = λ M agrees. tt;
     rings = refl;
-    seats = λ s. record { received = sym (append-nil (received a s)); known = ([], append-nil (known a s)); handed = refl };
+    seats = λ s. record { received = sym (append-nil (received a s)); known = ([], append-nil (known a s)); handed = refl; early = refl };
   }
 
   -- a look is no step
@@ -133,6 +134,7 @@ module _ {W A : Type 0} {g : Ghosts W} (work : Meaning W) where
       received = looks_received a b l s ∙ sym (append-nil (received a s));
       known = (l.seats s).known;
       handed = ap (λ (x : Seat W). x.handed) (l.seats s).same;
+      early = ap (λ (x : Seat W). x.early) (l.seats s).same;
     };
   }
 
@@ -152,6 +154,7 @@ module _ {W A : Type 0} {g : Ghosts W} (work : Meaning W) where
       received = l.received s ∙ sym (append-nil (received a s));
       known = l.known s;
       handed = (shelves s).handed;
+      early = (shelves s).early;
     };
   }
 
@@ -159,7 +162,7 @@ module _ {W A : Type 0} {g : Ghosts W} (work : Meaning W) where
   pub made_time : (a b : House W A g) (x : Step W) → ((s : ℕ) → message_of s x ≡ []) → Follows work (core_of a) (core_of b) (x ∷ [])
       → ((M : History W) → Agrees work (core_of a) M → KeepsTime work M x)
       → ((M : History W) → Agrees work (core_of a) M → KeepsPace work M x)
-      → b.rings ≡ a.rings → ((s : ℕ) → handed_of b s ≡ handed_of a s) → Made work a b (x ∷ [])
+      → b.rings ≡ a.rings → ((s : ℕ) → (handed_of b s ≡ handed_of a s) × (early_of b s ≡ early_of a s)) → Made work a b (x ∷ [])
   made_time a b x none f keep pace e handed = record {
     steps = f;
     keeps_time = λ M agrees. (keep M agrees, tt);
@@ -168,7 +171,8 @@ module _ {W A : Type 0} {g : Ghosts W} (work : Meaning W) where
     seats = λ s. record {
       received = rw (e, none s) (sym (append-nil (received a s)));
       known = rw (e, none s) ([], append-nil (known a s));
-      handed = handed s;
+      handed = (handed s).0;
+      early = (handed s).1;
     };
   }
 
@@ -177,7 +181,7 @@ module _ {W A : Type 0} {g : Ghosts W} (work : Meaning W) where
       (a b : House W A g) (t : ℕ) (m : Message W) (x : Step W) → message_of t x ≡ m ∷ [] → ((s : ℕ) → s ≢ t → message_of s x ≡ [])
       → rings_of b ≡ rings_of a → received b t ≡ received a t ++ m ∷ [] → known a t ≡ m ∷ known b t
       → ((s : ℕ) → s ≢ t → (received b s ≡ received a s) × (known b s ≡ known a s))
-      → ((s : ℕ) → handed_of b s ≡ handed_of a s) → Follows work (core_of a) (core_of b) (x ∷ [])
+      → ((s : ℕ) → (handed_of b s ≡ handed_of a s) × (early_of b s ≡ early_of a s)) → Follows work (core_of a) (core_of b) (x ∷ [])
       → ((M : History W) → Agrees work (core_of a) M → KeepsTime work M x)
       → ((M : History W) → Agrees work (core_of a) M → KeepsPace work M x) → Made work a b (x ∷ [])
   made_one a b t m x here elsewhere same taken first others handed f keep pace = record {
@@ -194,7 +198,8 @@ module _ {W A : Type 0} {g : Ghosts W} (work : Meaning W) where
         | inl e ↦ rw (e, here, first) ([], append-nil (m ∷ known b t))
         | inr n ↦ rw (elsewhere s n, (others s n).1) ([], append-nil (known a s))
       ];
-      handed = handed s;
+      handed = (handed s).0;
+      early = (handed s).1;
     };
   }
 
@@ -202,7 +207,7 @@ module _ {W A : Type 0} {g : Ghosts W} (work : Meaning W) where
       (a b : House W A g) (t : ℕ) (job : W)
       → rings_of b ≡ rings_of a → received b t ≡ received a t ++ Job job ∷ [] → known a t ≡ Job job ∷ known b t
       → ((s : ℕ) → s ≢ t → (received b s ≡ received a s) × (known b s ≡ known a s))
-      → ((s : ℕ) → handed_of b s ≡ handed_of a s) → Follows work (core_of a) (core_of b) (step.Submit t job ∷ [])
+      → ((s : ℕ) → (handed_of b s ≡ handed_of a s) × (early_of b s ≡ early_of a s)) → Follows work (core_of a) (core_of b) (step.Submit t job ∷ [])
       → ((M : History W) → Agrees work (core_of a) M → KeepsTime work M (step.Submit t job))
       → ((M : History W) → Agrees work (core_of a) M → KeepsPace work M (step.Submit t job)) → Made work a b (step.Submit t job ∷ [])
   made_job a b t job = made_one a b t (Job job) (step.Submit t job) (rw (eqb_same t) refl) (λ s n. rw (eqb_other t s n) refl)
@@ -211,7 +216,7 @@ module _ {W A : Type 0} {g : Ghosts W} (work : Meaning W) where
       (a b : House W A g) (t : ℕ)
       → rings_of b ≡ rings_of a → received b t ≡ received a t ++ End ∷ [] → known a t ≡ End ∷ known b t
       → ((s : ℕ) → s ≢ t → (received b s ≡ received a s) × (known b s ≡ known a s))
-      → ((s : ℕ) → handed_of b s ≡ handed_of a s) → Follows work (core_of a) (core_of b) (step.Close t ∷ [])
+      → ((s : ℕ) → (handed_of b s ≡ handed_of a s) × (early_of b s ≡ early_of a s)) → Follows work (core_of a) (core_of b) (step.Close t ∷ [])
       → ((M : History W) → Agrees work (core_of a) M → KeepsTime work M (step.Close t))
       → ((M : History W) → Agrees work (core_of a) M → KeepsPace work M (step.Close t)) → Made work a b (step.Close t ∷ [])
   made_end a b t = made_one a b t End (step.Close t) (rw (eqb_same t) refl) (λ s n. rw (eqb_other t s n) refl)

@@ -14,7 +14,7 @@ use Rattle.cbs_steps.specs.declared.step.Step.TheVariants.{Submit, Run, Advance,
 use Rattle.cbs_clients.specs.declared.house.House.{House}
 use Rattle.cbs_host.specs.declared.poll.Poll.{Poll}
 use Rattle.cbs_host.specs.declared.poll.Poll.TheVariants.{Nothing, Took, Closed, Full, OutOfMemory, NoSuchServer}
-use Rattle.cbs_clients.specs.Houses.{core_of, rings_of, received, handed_of, IsHouseOnTime, Made, Moves, MovesBy, LooksOnly, Polled, ServesOn, ServesBy}
+use Rattle.cbs_clients.specs.Houses.{early_of, core_of, rings_of, received, handed_of, IsHouseOnTime, Made, Moves, MovesBy, LooksOnly, Polled, ServesOn, ServesBy}
 use Rattle.cbs_host.specs.Meters.{NothingBeyond, NeverCharges}
 use Rattle.cbs_clients.specs.Meters.{IsRunPaid, IsMove, all_steps}
 use Rattle.cbs_clients.specs.Steps.{messages_of, pops_of, pops, MayServe}
@@ -153,7 +153,11 @@ module _ {W A : Type 0} {g : Ghosts W} (work : Meaning W) where
   pub serves_handed : (a b : House W A g) → ServesOn work a b → (s : ℕ) → handed_of b s ≡ handed_of a s
   serves_handed a b m = moves_handed work (MayServe work) a b m.moves.0 m.moves.1
 
-  -- and keeps the rings
+  -- no job ends early by it
+  pub serves_early : (a b : House W A g) → ServesOn work a b → (s : ℕ) → early_of b s ≡ early_of a s
+  serves_early a b m s = (m.moves.1.made.seats s).early
+
+  -- and it keeps the rings
   pub serves_rings : (a b : House W A g) → ServesOn work a b → rings_of b ≡ rings_of a
   serves_rings a b m = moves_rings work (MayServe work) a b m.moves.0 m.moves.1
 

@@ -1,5 +1,5 @@
 -- A new house.
-use Rattle.std.proofs.Common.{◌≡◌, ℕ, ◌+◌, ◌<◌, List, [], ◌∷◌, ◌++◌, length, map, get_or, Some, refl, zero-add, ap, sym, ◌∙◌, arith, ap₂, subst}
+use Rattle.std.proofs.Common.{false, ◌≡◌, ℕ, ◌+◌, ◌<◌, List, [], ◌∷◌, ◌++◌, length, map, get_or, Some, refl, zero-add, ap, sym, ◌∙◌, arith, ap₂, subst}
 use Rattle.std.specs.Prelude.{slice_get}
 use Rattle.std.specs.List.{All, range_with_len}
 use Rattle.std.proofs.lemmas.List.{length-map, map-id, map-append}
@@ -40,9 +40,10 @@ module _ {W A : Type 0} {g : Ghosts W} where
 
 module _ {W : Type 0} (work : Meaning W) where
   module _ (core : CoreHeld W) (setup : Setup) (agrees : Agrees work core (record { setup = setup; steps = [] })) where
-    pub new_kept : (s : ℕ) → s < length core.faces → KeepsServer work (held_at core s) [] 0 []
+    pub new_kept : (s : ℕ) → s < length core.faces → KeepsServer work (held_at core s) [] 0 false []
     new_kept s l = let n = new_server work core setup agrees s l in record {
-      outputs = rw n.jobs refl;
+      outputs = λ none. rw n.jobs refl;
+      held = rw n.jobs refl;
       within = omega arith;
       accepted = n.accepted;
       finished = n.finished;
@@ -57,7 +58,7 @@ module _ {W : Type 0} (work : Meaning W) where
     housed_new r shelves rings count new empty some = record {
       ring_count = rings;
       shelf_count = count;
-      servers = λ s l. rw ((new_rings r new s).0, (empty s).handed, (empty s).results) (new_kept s l);
+      servers = λ s l. rw ((new_rings r new s).0, (empty s).handed, (empty s).early, (empty s).results) (new_kept s l);
       announced = λ s l. (empty s).announced ∙ sym (new_kept s l).accepted;
       history = λ none. none (record { setup = setup; steps = [] }) agrees;
       backlog = rw agrees.world.same_backlog some;

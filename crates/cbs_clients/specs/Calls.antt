@@ -1,5 +1,5 @@
 -- What each call of a house and of a client does, as one relation of the state before, the result and the state after.
-use Rattle.std.specs.Prelude.{◌≡◌, ◌↔◌, ◌⊎◌, ℕ, ◌+◌, ◌*◌, ◌<◌, ◌≤◌, true, false, List, [], ◌∷◌, ◌++◌, length, slice_get, Option, IfSome, Result, Err}
+use Rattle.std.specs.Prelude.{Some, None, ◌≡◌, ◌≢◌, ◌↔◌, ◌⊎◌, ℕ, ◌+◌, ◌*◌, ◌<◌, ◌≤◌, true, false, List, [], ◌∷◌, ◌++◌, length, slice_get, Option, IfSome, Result, Err}
 use Rattle.std.specs.Prelude.{IfOk, IfErr, OnOk, OnErr, IsOk, MatchOption, MatchResult}
 use Rattle.cbs_rate.specs.Limits.{longest_period}
 use Rattle.cbs_job.specs.Work.{Meaning}
@@ -20,11 +20,13 @@ use Rattle.cbs_steps.specs.declared.step.Step.{Step}
 use Rattle.cbs_steps.specs.declared.step.Step.TheVariants as step
 use Rattle.cbs_steps.specs.declared.charges.Charges.{Charges}
 use Rattle.cbs_steps.specs.declared.view.ServerView.{ServerView}
-use Rattle.cbs_core.specs.Agreement.{Agrees}
-use Rattle.cbs_core.specs.Held.{running, AllSame}
-use Rattle.cbs_clients.specs.Errors.{charge_answer}
+use Rattle.cbs_core.specs.Agreement.{Agrees, FollowsInHindsight}
+use Rattle.cbs_job.specs.declared.completion.Completion.{Completion}
+use Rattle.cbs_steps.specs.declared.error.CoreError.{CoreError}
+use Rattle.cbs_core.specs.Held.{held_at, running, AllSame, OthersSame, EndsJob, end_refusal}
+use Rattle.cbs_clients.specs.Errors.{charge_error, charge_answer}
 use Rattle.cbs_clients.specs.Clients.{sent_by, free, most_jobs, SameClient}
-use Rattle.cbs_clients.specs.Houses.{core_of, rings_of, seat_at, new_seat, IsHouseOnTime, IsHousePaced, KeepsResults, told_answer, Made, SameHouse, Polled}
+use Rattle.cbs_clients.specs.Houses.{core_of, rings_of, seat_at, new_seat, results_of, IsHouseOnTime, IsHousePaced, KeepsResults, told_answer, Made, SameHouse, Polled}
 use Rattle.cbs_clients.specs.Houses.{ServesOn, ServesBy, Collects, NamesJob}
 use Rattle.cbs_clients.specs.Messages.{jobs_among, has_end}
 use Rattle.cbs_host.specs.Meters.{NothingBeyond, NeverCharges}
@@ -116,6 +118,21 @@ module _ {W A : Type 0} {g : Ghosts W} where
     pub same : OnErr answer (SameHouse old new)
     pub refusal : (M : History W) → Agrees work (core_of old) M
         → answer ≡ charge_answer (charge_refusal (world_after work M) server ticks)
+
+  -- The first job of server s, which got the last unit, ends before its last unit, with its output so far. In hindsight it
+  -- had only the units that it got. That output is put after the results of s. All is on time or paced as it was. If the
+  -- core refuses the end, so does the house, and nothing changed
+  pub record FinishOf (work : Meaning W) (s : ℕ) (old : House W A g) (answer : Result Completion HouseError) (new : House W A g) : Type 0 where
+    pub hindsight : OnOk answer (FollowsInHindsight work (core_of old) (core_of new) s)
+    pub job : IfOk answer (λ c. EndsJob work c (held_at (core_of old) s) (held_at (core_of new) s) × OthersSame s (core_of old) (core_of new) × (c.server ≡ s))
+    pub collects : IfOk answer (λ c. (seat_at new s ≡ record (seat_at old s) { results = results_of old s ++ c.result ∷ []; early = true })
+        × ((t : ℕ) → t ≢ s → seat_at new t ≡ seat_at old t))
+    pub rings : rings_of new ≡ rings_of old
+    pub on_time : IsHouseOnTime old → IsHouseOnTime new
+    pub paced : IsHousePaced old → IsHousePaced new
+    pub same : OnErr answer (SameHouse old new)
+    pub refusal : MatchResult answer (λ c. end_refusal (core_of old) s ≡ None)
+        (λ e. (error : CoreError) × (end_refusal (core_of old) s ≡ Some error) × (e ≡ charge_error error))
 
   -- a charge of the server that runs; if none runs, it is refused, and nothing changed
   abbrev pub ChargesLast : Meaning W → ℕ → House W A g → Result (Unit {0}) HouseError → House W A g → Type 0

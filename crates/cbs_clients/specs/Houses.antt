@@ -1,5 +1,5 @@
 -- What a contract says about a house.
-use Rattle.std.specs.Prelude.{ℕ, ◌≡◌, ◌≢◌, ◌⊎◌, ◌+◌, ◌≤◌, ◌<◌, true, Result, Ok, Err, List, [], ◌∷◌, ◌++◌, drop, length, map, slice_get, Some}
+use Rattle.std.specs.Prelude.{ℕ, ◌≡◌, ◌≢◌, ◌⊎◌, ◌+◌, ◌≤◌, ◌<◌, Bool, true, false, Result, Ok, Err, List, [], ◌∷◌, ◌++◌, drop, length, map, slice_get, Some}
 use mathlib.Core.List.{IsPrefix}
 use Rattle.cbs_job.specs.Work.{Meaning, whole}
 use Rattle.cbs_job.specs.declared.work.Work.{Ghosts}
@@ -28,17 +28,19 @@ use Rattle.cbs_clients.specs.Steps.{messages_of, pops, MayServe}
 use Rattle.cbs_core.specs.Agreement.{Agrees, Follows, AllAllowed, AllOnTime, AllPaced}
 
 -- What a house has of one server. First the messages received and the messages that it knows to wait in the ring, each
--- oldest first. Then how many results were handed out, and the results that are kept, in order.
+-- oldest first. Then how many results were handed out, and the results that are kept, in order. Last, whether one of
+-- these results, handed out or kept, is that of a job that ended early.
 pub record Seat (W : Type 0) : Type 0 where
   pub received : List (Message W)
   pub known : List (Message W)
   pub handed : ℕ
   pub results : List ℕ
+  pub early : Bool
 
 module _ {W : Type 0} where
   -- what a new house has of a server
   abbrev pub new_seat : Seat W
-  new_seat = record { received = []; known = []; handed = 0; results = [] }
+  new_seat = record { received = []; known = []; handed = 0; results = []; early = false }
 
   -- these messages were taken: the messages known to wait before are a prefix of them followed by those known to wait
   -- now
@@ -46,6 +48,7 @@ module _ {W : Type 0} where
     pub received : new.received ≡ old.received ++ ms
     pub known : IsPrefix old.known (ms ++ new.known)
     pub handed : new.handed ≡ old.handed
+    pub early : new.early ≡ old.early
 
   -- more messages may be known to wait in the ring, and nothing else changed
   pub record SeesMore (old new : Seat W) : Type 0 where
@@ -76,6 +79,7 @@ module _ {W A : Type 0} {g : Ghosts W} where
     known = known_in h.rings s;
     handed = (shelf_at h.collector s).handed;
     results = (shelf_at h.collector s).results;
+    early = (shelf_at h.collector s).early;
   }
 
   -- the messages received for server s, oldest first
@@ -93,6 +97,10 @@ module _ {W A : Type 0} {g : Ghosts W} where
   -- the results of server s that are kept, in order
   abbrev pub results_of : House W A g → ℕ → List ℕ
   results_of h s = (seat_at h s).results
+
+  -- whether a job of server s ended early, so that its result is not the whole result of the job
+  abbrev pub early_of : House W A g → ℕ → Bool
+  early_of h s = (seat_at h s).early
 
   -- how many results of server s were found: those handed out, and those kept
   abbrev pub result_count : House W A g → ℕ → ℕ
@@ -143,10 +151,10 @@ told_answer (Ok told) = Ok told
 told_answer (Err e) = Err house_error.NoSuchServer
 
 module _ {W A : Type 0} {g : Ghosts W} where
-  -- Every job received is finished. The results of each server are the whole results of those jobs, in order, except
-  -- the first ones, which were handed out
+  -- Every job received is finished. The results of each server, if none of its jobs ended early, are the whole results of
+  -- those jobs, in order, except the first ones, which were handed out
   abbrev pub AllFinished : Meaning W → House W A g → Type 0
-  AllFinished work h = (s : ℕ) → s < length (core_of h).faces → results_of h s ≡ drop (handed_of h s) (map (whole work) (jobs_among (received h s)))
+  AllFinished work h = (s : ℕ) → s < length (core_of h).faces → early_of h s ≡ false → results_of h s ≡ drop (handed_of h s) (map (whole work) (jobs_among (received h s)))
 
 module _ {W A : Type 0} {g : Ghosts W} where
   -- The house made some steps, each of which is allowed at its place, and the steps took n messages. No advance among

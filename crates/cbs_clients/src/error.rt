@@ -56,7 +56,7 @@ impl HouseError {
         }
     }
 
-    /// Returns the house's error for an error of its core on a charge.
+    /// Returns the house's error for an error of its core on a charge or an early end.
     pub(crate) fn of_charge(error: CoreError) -> HouseError
         ensures { result ≡ charge_error error }
     {

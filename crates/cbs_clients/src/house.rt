@@ -9,7 +9,7 @@ use crate::message::Message;
 use crate::rings::Rings;
 use cbs_core::{Charges, Core, CoreError, LIMIT, Ran, ServerView};
 use cbs_host::{Meter, Poll};
-use cbs_job::Work;
+use cbs_job::{Completion, Work};
 use cbs_results::Collector;
 use std::alloc::{Allocator, Global};
 
@@ -37,7 +37,7 @@ impl<W: Work, A: Allocator> Drop for House<W, A> {
 impl<W: Work, A: Allocator> House<W, A> {
     ghost use Rattle.std.specs.Prelude.{ℕ, ◌≡◌, ◌↔◌, ◌⊎◌, IsTrue, ◌<◌, ◌≤◌, ◌-◌, min, true, [], ◌++◌, length, IfSome, IfNone, IfOk, IfErr};
     ghost use Rattle.cbs_core.specs.Held.{front_output, held_at, is_running, AllSame, IsClosed};
-    ghost use Rattle.cbs_clients.specs.Calls.{PollOf, RunOf, RunBy, AsksMeter, AdvanceOf, ChargeOf, ChargesLast, ChargesOf, ClockOf, SpanOf, ViewOf, PromiseOf, LooksAtRing};
+    ghost use Rattle.cbs_clients.specs.Calls.{PollOf, RunOf, RunBy, AsksMeter, AdvanceOf, ChargeOf, FinishOf, ChargesLast, ChargesOf, ClockOf, SpanOf, ViewOf, PromiseOf, LooksAtRing};
     ghost use Rattle.cbs_clients.specs.Clients.{server_of, sent_by, IsOpened};
     ghost use Rattle.cbs_clients.specs.Houses.{core_of, rings_of, received, known, IsHousePaced, KeepsResults, Made, LooksOnly, Polled, SameHouse, CanTake};
     ghost use Rattle.cbs_clients.specs.Rings.{KnowsNone};
@@ -298,6 +298,30 @@ impl<W: Work, A: Allocator> House<W, A> {
     {
         match self.core.charge(server, ticks) {
             Ok(()) => Ok(()),
+            Err(error) => Err(HouseError::of_charge(error)),
+        }
+    }
+
+    /// Ends the job of a server that got the last unit, although it has units left, as [`Core::finish`] does. Its output
+    /// so far is put in the results, in the place of its whole result, and returned with its number.
+    ///
+    /// In hindsight the job had only the units that it got. So no clock moves, no budget or deadline changes, and the
+    /// server may still be charged for the unit.
+    ///
+    /// Refuses, in this order:
+    /// - [`HouseError::NoSuchServer`];
+    /// - [`HouseError::NotRunning`], unless the server ran the last unit and no tick has passed since, except those
+    ///   charged for the unit. The same if that unit was the last of its job, or if the server accepted a job since.
+    ///
+    /// A refusal changes nothing.
+    pub fn finish(&mut self, server: u16) -> Result<Completion, HouseError>
+        ensures { FinishOf W.meaning server self.old result self.new }
+    {
+        match self.core.finish(server) {
+            Ok(done) => {
+                self.collector.take_early(done);
+                Ok(done)
+            }
             Err(error) => Err(HouseError::of_charge(error)),
         }
     }

@@ -7,10 +7,10 @@ use cbs_results::CollectError;
 use std::alloc::Allocator;
 
 impl<W: Work, A: Allocator> House<W, A> {
-    ghost use Rattle.std.specs.Prelude.{◌≡◌, ◌≤◌, ◌<◌, drop, length, map, IfOk, IfErr, OnOk, OnErr};
+    ghost use Rattle.std.specs.Prelude.{◌≡◌, ◌≤◌, ◌<◌, false, drop, length, map, IfOk, IfErr, OnOk, OnErr};
     ghost use mathlib.Core.List.{IsPrefix};
     ghost use Rattle.cbs_job.specs.Work.{whole};
-    ghost use Rattle.cbs_clients.specs.Houses.{core_of, rings_of, received, results_of, handed_of, SameHouse, HandsOutResults, KeepsBack};
+    ghost use Rattle.cbs_clients.specs.Houses.{core_of, rings_of, received, results_of, handed_of, early_of, SameHouse, HandsOutResults, KeepsBack};
     ghost use Rattle.cbs_clients.specs.Messages.{jobs_among};
     ghost use Rattle.cbs_clients.specs.HouseInvariant.{KeepsServer};
     ghost use Rattle.cbs_core.specs.Held.{held_at};
@@ -22,11 +22,11 @@ impl<W: Work, A: Allocator> House<W, A> {
             × (results.now ≡ results_of self.now server)) }
         ensures error { IfErr result (λ error. (error ≡ HouseError.NoSuchServer)
             × (length (core_of self.now).faces ≤ server)) }
-        // These results, followed by the whole results of the jobs held, are always those of the jobs received. Only
-        // the first ones are missing, which were handed out.
+        // If no job of the server ended early, these results, followed by the whole results of the jobs held, are those
+        // of the jobs received. Only the first ones are missing, which were handed out.
         ensures keeps { IfOk result (λ results.
             KeepsServer W.meaning (held_at (core_of self.now) server) (received self.now server)
-            (handed_of self.now server) results.now) }
+            (handed_of self.now server) (early_of self.now server) results.now) }
     {
         match self.collector.results(server) {
             Some(results) => Ok(results),
@@ -37,7 +37,7 @@ impl<W: Work, A: Allocator> House<W, A> {
     /// Hands out the results of a server found so far, in the order of its jobs, and keeps none of them. So a house can
     /// serve for ever in bounded memory. All calls go on as before: the numbers of jobs go on, and
     /// [`results`](House::results) returns the results found from then on. So what the calls handed out, one after
-    /// another, is always a prefix of the whole results of the server's jobs, in order.
+    /// another, is always a prefix of the whole results of the server's jobs, in order, if none of them ended early.
     ///
     /// Memory is taken for the places of the results of jobs that are accepted and not finished. So [`run`](House::run)
     /// and [`drain`](House::drain) need no memory. If no job is held, no memory is asked for.
@@ -50,7 +50,7 @@ impl<W: Work, A: Allocator> House<W, A> {
         ensures ok { IfOk result (λ results. results.items ≡ results_of self.old server) }
         ensures handed { OnOk result (HandsOutResults server self.old self.new) }
         // What is handed out follows the results that were handed out before.
-        ensures front { IfOk result (λ results.
+        ensures front { early_of self.old server ≡ false → IfOk result (λ results.
             IsPrefix results.items (drop (handed_of self.old server)
             (map (whole W.meaning) (jobs_among (received self.old server))))) }
         ensures rings { rings_of self.new ≡ rings_of self.old }

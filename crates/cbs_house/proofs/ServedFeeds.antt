@@ -26,7 +26,7 @@ module _ {W A : Type 0} {g : Ghosts W} (work : Meaning W) (h : House W A g) (hou
       ∙ (sym (append-nil (jobs_among (sent_by f.client))) ∙ ap (λ ws. jobs_among (sent_by f.client) ++ ws) (sym done.none_left)) in
       record {
         done = done;
-        results = none_held work h housed none s l ∙ ap (λ ws. drop (handed_of h s) (map (whole work) ws)) all;
+        results = λ early. none_held work h housed none s l early ∙ ap (λ ws. drop (handed_of h s) (map (whole work) ws)) all;
       }
 
   -- if no job is held, all feeds are done and all their messages received, all is served

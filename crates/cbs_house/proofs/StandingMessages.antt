@@ -206,7 +206,7 @@ module _ {W A : Type 0} {g : Ghosts W} where
         let k = housed.servers s full.1.within in
         let held = held_at (core_of a) s in
         let shelf = shelf_at a.collector s in
-        let all = counts work held held (received a s) (received a s) shelf.handed shelf.handed shelf.results shelf.results k in
+        let all = counts work held held (received a s) (received a s) shelf.handed shelf.handed shelf.early shelf.early shelf.results shelf.results k in
         let accepted = k.accepted in
         let finished = k.finished in
         omega (arith, l, some, full.3, all, accepted, finished)

@@ -1,21 +1,23 @@
 -- What a collector holds.
-use Rattle.std.specs.Prelude.{ℕ, ◌≡◌, ◌≢◌, ◌+◌, ◌<◌, ◌≤◌, ◌⊎◌, ◌||◌, leb, ltb, if◌then◌else◌, List, [], ◌∷◌, ◌++◌, length, get_or, Option, Some, None, Result}
+use Rattle.std.specs.Prelude.{Bool, true, false, ℕ, ◌≡◌, ◌≢◌, ◌+◌, ◌<◌, ◌≤◌, ◌⊎◌, ◌||◌, leb, ltb, if◌then◌else◌, List, [], ◌∷◌, ◌++◌, length, get_or, Option, Some, None, Result}
 use Rattle.std.specs.Result.{MatchResult}
 use Rattle.cbs_job.specs.declared.completion.Completion.{Completion}
 use Rattle.cbs_results.specs.declared.error.CollectError.{CollectError}
 use Rattle.cbs_results.specs.declared.error.CollectError.TheVariants.{Stranger, Double, Early, OutOfMemory}
 
 -- What a collector holds of one server: how many results were handed out, and the results kept, which were taken after
--- those, in order. Then how many completions were announced, and how many more can be announced without an allocation
+-- those, in order. Then how many completions were announced, and how many more can be announced without an allocation.
+-- Last, whether a result was taken that is one of a job that ended early
 pub record Shelved : Type 0 where
   pub handed : ℕ
   pub results : List ℕ
   pub announced : ℕ
   pub spare : ℕ
+  pub early : Bool
 
 -- what is held of a server before its first result, and if there is no such server
 abbrev pub no_shelf : Shelved
-no_shelf = record { handed = 0; results = []; announced = 0; spare = 0 }
+no_shelf = record { handed = 0; results = []; announced = 0; spare = 0; early = false }
 
 -- what is held of server s
 abbrev pub shelf_at : List Shelved → ℕ → Shelved
@@ -32,6 +34,7 @@ pub record SameShelf (old new : Shelved) : Type 0 where
   pub results : new.results ≡ old.results
   pub announced : new.announced ≡ old.announced
   pub spare : 0 < old.spare → 0 < new.spare
+  pub early : new.early ≡ old.early
 
 -- results and announcements of every server but s are as before
 abbrev pub OtherShelvesSame : ℕ → List Shelved → List Shelved → Type 0
@@ -51,6 +54,7 @@ pub record Announces (old new : Shelved) : Type 0 where
   pub handed : new.handed ≡ old.handed
   pub results : new.results ≡ old.results
   pub announced : new.announced ≡ old.announced + 1
+  pub early : new.early ≡ old.early
 
 -- a result was put after the others, and if one more could be announced without an allocation, it still can
 pub record TakesResult (result : ℕ) (old new : Shelved) : Type 0 where
@@ -58,12 +62,22 @@ pub record TakesResult (result : ℕ) (old new : Shelved) : Type 0 where
   pub results : new.results ≡ old.results ++ result ∷ []
   pub announced : new.announced ≡ old.announced
   pub spare : 0 < old.spare → 0 < new.spare
+  pub early : new.early ≡ old.early
+
+-- the same of the result of a job that ended early
+pub record TakesEarly (result : ℕ) (old new : Shelved) : Type 0 where
+  pub handed : new.handed ≡ old.handed
+  pub results : new.results ≡ old.results ++ result ∷ []
+  pub announced : new.announced ≡ old.announced
+  pub spare : 0 < old.spare → 0 < new.spare
+  pub early : new.early ≡ true
 
 -- the results were handed out: none of them is kept, and all are counted
 pub record HandsOut (old new : Shelved) : Type 0 where
   pub handed : new.handed ≡ taken old
   pub results : new.results ≡ []
   pub announced : new.announced ≡ old.announced
+  pub early : new.early ≡ old.early
 
 -- a completion was announced and not taken
 abbrev pub IsWaiting : Shelved → Type 0

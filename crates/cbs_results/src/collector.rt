@@ -2,7 +2,7 @@
 
 ghost use Rattle.std.specs.Prelude.{ℕ, ◌≡◌, ◌<◌, ◌≤◌, ◌↔◌, length, true, false, IfOk, OnOk, OnErr, IsOk, MatchResult, MatchOption, Some, None};
 ghost use Rattle.std.specs.List.{All};
-ghost use Rattle.cbs_results.specs.Collected.{shelf_at, no_shelf, SameShelf, OtherShelvesSame, AllShelvesSame, Announces, TakesResult, HandsOut, NeedsServer, IsWaiting, IsComplete, IsNext, take_refusal};
+ghost use Rattle.cbs_results.specs.Collected.{shelf_at, no_shelf, SameShelf, OtherShelvesSame, AllShelvesSame, Announces, TakesResult, TakesEarly, HandsOut, NeedsServer, IsWaiting, IsComplete, IsNext, take_refusal};
 
 use crate::error::CollectError;
 use crate::shelf::Shelf;
@@ -141,6 +141,18 @@ impl<A: Allocator> Collector<A> {
     {
         let shelf = &mut self.shelves[usize::from(done.server)];
         shelf.take(done.result);
+    }
+
+    /// Takes the next completion of a server, which must have been announced, and is one of a job that ended early.
+    pub fn take_early(&mut self, done: Completion)
+        requires { IsNext self.old done }
+        ensures taken { TakesEarly done.result (shelf_at self.old done.server)
+            (shelf_at self.new done.server) }
+        ensures others { OtherShelvesSame done.server self.old self.new
+            × (length self.new ≡ length self.old) }
+    {
+        let shelf = &mut self.shelves[usize::from(done.server)];
+        shelf.take_early(done.result);
     }
 
     /// Returns whether a completion was announced and not taken.

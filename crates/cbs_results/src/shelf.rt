@@ -1,7 +1,7 @@
 //! The results of one server.
 
 ghost use Rattle.std.specs.Prelude.{◌≡◌, ◌<◌, IfOk, OnOk, OnErr, IsOk, MatchResult, Some, None, true, false};
-ghost use Rattle.cbs_results.specs.Collected.{SameShelf, Announces, TakesResult, HandsOut, IsWaiting, IsComplete, shelf_refusal, no_shelf};
+ghost use Rattle.cbs_results.specs.Collected.{SameShelf, Announces, TakesResult, TakesEarly, HandsOut, IsWaiting, IsComplete, shelf_refusal, no_shelf};
 
 use crate::error::CollectError;
 use std::alloc::{AllocError, Allocator, Global};
@@ -15,6 +15,8 @@ pub struct Shelf<A: Allocator = Global> {
     // The number of results taken. The last ones of them are kept.
     taken: u64,
     announced: u64,
+    // Whether a result was taken that is one of a job that ended early.
+    early: bool,
 }
 
 impl<A: Allocator> Model for Shelf<A> {
@@ -28,6 +30,7 @@ impl<A: Allocator> Model for Shelf<A> {
       results = h.results.items;
       announced = h.announced;
       spare = min (h.taken - vec_len h.results + vec_capacity h.results) 18446744073709551615 - h.announced;
+      early = h.early;
     } };
 
     ghost invariant = { λ h. (vec_len h.results ≤ h.taken) × (h.taken ≤ h.announced)
@@ -43,6 +46,7 @@ impl<A: Allocator> Shelf<A> {
             results: Vec::new(alloc),
             taken: 0,
             announced: 0,
+            early: false,
         }
     }
 
@@ -88,6 +92,15 @@ impl<A: Allocator> Shelf<A> {
     {
         self.results.push_reserved(output);
         self.taken += 1;
+    }
+
+    /// Takes the next result, which was announced, and is one of a job that ended early.
+    pub fn take_early(&mut self, output: u64)
+        requires { IsWaiting self.old }
+        ensures { TakesEarly output self.old self.new }
+    {
+        self.take(output);
+        self.early = true;
     }
 
     /// Returns whether a completion was announced and not taken.

@@ -1,5 +1,5 @@
 -- The results that a house has after it served the jobs of a file.
-use Rattle.std.proofs.Common.{◌≡◌, ℕ, List, [], ◌∷◌, ◌++◌, drop, length, map, refl, sym, ap, ap₂, ◌∙◌, subst}
+use Rattle.std.proofs.Common.{false, ◌≡◌, ℕ, List, [], ◌∷◌, ◌++◌, drop, length, map, refl, sym, ap, ap₂, ◌∙◌, subst}
 use Rattle.std.specs.List.{All, range_with_len}
 use Rattle.std.proofs.lemmas.List.Elements.{All-head, All-tail, All-weaker}
 use Rattle.std.proofs.lemmas.Simd.{map-map}
@@ -14,7 +14,7 @@ use Rattle.cbs_host.specs.Meters.{NothingBeyond}
 use Rattle.cbs_steps.specs.declared.step.Step.{Step}
 use Rattle.cbs_clients.specs.Clients.{server_of}
 use Rattle.cbs_house.specs.Feeds.{client_of, unsent_jobs, all_jobs, KeepsFeeds}
-use Rattle.cbs_clients.specs.Houses.{Seat, core_of, rings_of, received, results_of, handed_of, seat_at, new_seat, ServesOn}
+use Rattle.cbs_clients.specs.Houses.{Seat, core_of, rings_of, received, results_of, handed_of, early_of, seat_at, new_seat, ServesOn}
 use Rattle.cbs_clients.specs.Messages.{jobs_among}
 use Rattle.cbs_clients.specs.Steps.{messages_of}
 use Rattle.cbs_clients.specs.Opened.{IsUnused}
@@ -46,18 +46,19 @@ module _ {W A : Type 0} {g : Ghosts W} where
       feeds_jobs fs fs' kept ∙ (map_all all_jobs unsent_jobs fs
       (All-weaker (λ f. IsUnused ring (client_of f)) (λ f. all_jobs f ≡ unsent_jobs f) (unused_jobs ring) fs unused) ∙ lefts)
 
-  -- if nothing was handed out, the results of the servers are those of the lists of jobs
+  -- if nothing was handed out, and no job ended early, the results of the servers are those of the lists of jobs
   pub results_are : (work : Meaning W) (h : House W A g) (ring n : ℕ) (fs fs' : List (Feed W A g)) (jobs : List (List W))
       → All (λ f. IsUnused ring (client_of f)) fs
       → map (λ f. server_of (client_of f)) fs ≡ range_with_len 0 n → map unsent_jobs fs ≡ jobs → KeepsFeeds fs fs' → ((s : ℕ) → handed_of h s ≡ 0)
+      → ((s : ℕ) → early_of h s ≡ false)
       → All (IsServed work h) fs' → map (results_of h) (range_with_len 0 n) ≡ map (map (whole work)) jobs
-  results_are work h ring n fs fs' jobs unused servers lefts kept none served =
+  results_are work h ring n fs fs' jobs unused servers lefts kept none early served =
       let numbers : map (λ f. server_of (client_of f)) fs' ≡ range_with_len 0 n = feeds_servers fs fs' kept ∙ servers in
       let all = jobs_kept ring fs fs' jobs unused lefts kept in
       let each : map (λ f. results_of h (server_of (client_of f))) fs' ≡ map (λ f. map (whole work) (all_jobs f)) fs' =
       map_all (λ f. results_of h (server_of (client_of f))) (λ f. map (whole work) (all_jobs f)) fs'
       (All-weaker (IsServed work h) (λ f. results_of h (server_of (client_of f)) ≡ map (whole work) (all_jobs f))
-      (λ f s. s.results ∙ ap (λ k. drop k (map (whole work) (all_jobs f))) (none (server_of (client_of f)))) fs' served) in
+      (λ f s. s.results (early (server_of (client_of f))) ∙ ap (λ k. drop k (map (whole work) (all_jobs f))) (none (server_of (client_of f)))) fs' served) in
       ap (map (results_of h)) (sym numbers) ∙ (map-map (results_of h) (λ f. server_of (client_of f)) fs'
       ∙ (each ∙ (sym (map-map (map (whole work)) all_jobs fs') ∙ ap (map (map (whole work))) all)))
 

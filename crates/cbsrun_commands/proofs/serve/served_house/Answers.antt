@@ -2,7 +2,7 @@ use Rattle.std.proofs.Common.{◌∙◌, ap, length}
 use Rattle.cbs_job.specs.FileJobs.{of_files}
 use Rattle.cbs_job.specs.declared.file.FileJob.{FileJob}
 use Rattle.cbs_clients.specs.Houses.{Seat}
-use Rattle.cbs_clients.proofs.Moves.{serves_handed}
+use Rattle.cbs_clients.proofs.Moves.{serves_early, serves_handed}
 use Rattle.cbsrun_commands.proofs.HouseResults.{results_are, by_server, served_count, stops_short}
 use Rattle.std.proofs.lemmas.Result.{err_from_is_err_and}
 use Rattle.cbsrun_commands.proofs.serve.served_house.Goals as goal
@@ -18,7 +18,8 @@ returns-clause-results g c =
     results_are of_files c.serve.new.house c.args.file.ring (length c.args.file.plan.rates) opened.feeds.items c.serve.new.feeds _
     opened.ensures.rings opened.ensures.servers opened.ensures.jobs
     (rw c.deref_mut.ensures.value at served.feeds) (λ s. serves_handed of_files opened.house c.serve.new.house served.steps s
-    ∙ ap (λ (x : Seat FileJob). x.handed) (opened.ensures.empty s)) served.served.0 ∙ by_server c.args.file
+    ∙ ap (λ (x : Seat FileJob). x.handed) (opened.ensures.empty s)) (λ s. serves_early of_files opened.house c.serve.new.house served.steps s
+    ∙ ap (λ (x : Seat FileJob). x.early) (opened.ensures.empty s)) served.served.0 ∙ by_server c.args.file
 
 pub returns-in_err-serve-clause-stops : goal.returns-in_err-serve-clause-stops
 returns-in_err-serve-clause-stops g c =

@@ -42,7 +42,7 @@ returns-in-Ok g c =
     let old = c.args.self.now in
     let a = c.advance.ensures in
     record {
-      made = made_time work old _ (Advance c.args.n) (λ s. refl) a.makes.state a.makes.on_time a.makes.paced refl (λ s. refl);
+      made = made_time work old _ (Advance c.args.n) (λ s. refl) a.makes.state a.makes.on_time a.makes.paced refl (λ s. (refl, refl));
       on_time = step_kept work (on_time_carried work) (IsQuietAfter work) old.core c.advance.new.self (Advance c.args.n) old.housed.history
           a.makes.state a.makes.on_time;
       paced = step_kept work (paced_carried work) (IsQuietAdvanceAfter work) old.core c.advance.new.self (Advance c.args.n) old.housed.history

@@ -39,7 +39,7 @@ returns-in-Ok g c =
     let old = c.args.self.now in
     let a = c.charge.ensures in
     record {
-      made = made_time work old _ (Charge c.args.server c.args.ticks) (λ s. refl) a.makes.state a.makes.on_time a.makes.paced refl (λ s. refl);
+      made = made_time work old _ (Charge c.args.server c.args.ticks) (λ s. refl) a.makes.state a.makes.on_time a.makes.paced refl (λ s. (refl, refl));
       paced = step_kept work (paced_carried work) (IsQuietAdvanceAfter work) old.core c.charge.new.self (Charge c.args.server c.args.ticks) old.housed.history
           a.makes.state a.makes.paced (λ M agrees. tt);
       rings = refl;

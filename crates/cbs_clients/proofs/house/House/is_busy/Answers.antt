@@ -19,7 +19,7 @@ held_some work core rings shelves h s waits = elim (cases_lt s (length shelves))
       let k = h.servers s (omega (arith, h.shelf_count, l)) in
       let shelf = shelf_at shelves s in
       let all = counts work (held_at core s) (held_at core s) (received_in rings s) (received_in rings s) shelf.handed shelf.handed
-      shelf.results shelf.results k in
+      shelf.early shelf.early shelf.results shelf.results k in
       omega (arith, all, k.accepted, h.announced s (omega (arith, h.shelf_count, l)), waits)
   | inr ge ↦ let past : shelf_at shelves s ≡ no_shelf = get_or_past shelves s no_shelf ge in absurd (omega (arith, rw past at waits))
 ]

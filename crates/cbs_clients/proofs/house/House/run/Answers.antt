@@ -25,7 +25,7 @@ returns-in_default g c =
     let old = c.args.self.now in
     let r = c.run-ran.ensures in
     let kept = collects_none work c.run-ran.result old _ c.in_default.not-Done (λ s. refl) in
-    let made = made_time work old _ Run (λ s. refl) r.makes.state r.makes.on_time r.makes.paced refl (λ s. refl) in
+    let made = made_time work old _ Run (λ s. refl) r.makes.state r.makes.on_time r.makes.paced refl (λ s. (refl, refl)) in
     record {
       reply = r.makes.reply;
       made = made;
@@ -34,7 +34,7 @@ returns-in_default g c =
       paced = step_kept work (paced_carried work) (IsQuietAdvanceAfter work) old.core c.run-ran.new.self Run old.housed.history r.makes.state
           r.makes.paced (λ M agrees. tt);
       collects = kept;
-      job = names old _ c.run-ran.result r.job kept;
+      job = names old _ c.run-ran.result r.job (λ s. refl);
     }
 
 pub invariant_of-self : goal.invariant_of-self
@@ -49,7 +49,7 @@ invariant_of-self g c =
       housed = housed_one work old.core c.run-ran.new.self old.rings old.rings old.collector c.take_expected.new.self h done.server refl
           c.take_expected.ensures.others.1 r.makes.count
           (Run ∷ []) r.makes.state
-          (λ l. keeps_done work _ _ _ _ _ _ _ _ (h.servers done.server l) done r.job.0 refl taken.handed taken.results)
+          (λ l. keeps_done work _ _ _ _ _ _ _ _ _ _ (h.servers done.server l) done r.job.0 refl taken.handed taken.results taken.early)
           (λ l. taken.announced ∙ (h.announced done.server l ∙ sym r.job.0.accepted))
           r.job.1 (λ s ne. refl) c.take_expected.ensures.others.0;
     }
@@ -68,11 +68,11 @@ returns-in-Done g c =
     record {
       reply = r.makes.reply;
       made = made_time work old _ Run (λ s. refl) r.makes.state r.makes.on_time r.makes.paced refl
-          (none_handed old.collector c.take_expected.new.self c.in-Done.done.server t.taken.handed t.others.0);
+          (none_handed old.collector c.take_expected.new.self c.in-Done.done.server t.taken.handed t.taken.early t.others.0);
       on_time = step_kept work (on_time_carried work) (IsQuietAfter work) old.core c.run-ran.new.self Run old.housed.history r.makes.state
           r.makes.on_time (λ M agrees. tt);
       paced = step_kept work (paced_carried work) (IsQuietAdvanceAfter work) old.core c.run-ran.new.self Run old.housed.history r.makes.state
           r.makes.paced (λ M agrees. tt);
       collects = (t.taken.results, λ s ne. (t.others.0 s ne).results);
-      job = names old _ (ran.Done c.in-Done.done) r.job (t.taken.results, λ s ne. (t.others.0 s ne).results);
+      job = names old _ (ran.Done c.in-Done.done) r.job (λ s. refl);
     }

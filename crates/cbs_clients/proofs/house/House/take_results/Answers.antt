@@ -20,17 +20,17 @@ pub returns-in-Ok-clause-known : goal.returns-in-Ok-clause-known
 returns-in-Ok-clause-known g c = let h = c.args.self.now.housed in omega (arith, h.shelf_count, c.in-Ok.ensures.refusal)
 
 pub returns-in-Ok-clause-front : goal.returns-in-Ok-clause-front
-returns-in-Ok-clause-front g c =
+returns-in-Ok-clause-front g c = λ none.
     let a = c.args.self.now in
     let s = c.args.server in
-    let kept = (a.housed.servers s (returns-in-Ok-clause-known g c)).outputs in
+    let kept = (a.housed.servers s (returns-in-Ok-clause-known g c)).outputs none in
     (map (whole g.W.Work.meaning) (held_at a.core s).jobs, rw c.in-Ok.ensures.ok kept)
 
 pub returns-in-Ok-clause-handed : goal.returns-in-Ok-clause-handed
 returns-in-Ok-clause-handed g c =
     let handed = c.in-Ok.ensures.handed in
     let others = c.take_results.ensures.others.0 in
-    record { core = refl; rings = refl; seat = rw (handed.handed, handed.results) refl; others = λ t ne. rw ((others t ne).handed, (others t ne).results) refl }
+    record { core = refl; rings = refl; seat = rw (handed.handed, handed.results, handed.early) refl; others = λ t ne. rw ((others t ne).handed, (others t ne).results, (others t ne).early) refl }
 
 pub returns-in-Err-Stranger-clause-unchanged : goal.returns-in-Err-Stranger-clause-unchanged
 returns-in-Err-Stranger-clause-unchanged g c = record { core = refl; rings = refl; seats = λ s. rw c.in-Err-Stranger.ensures.refused refl }
