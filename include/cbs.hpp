@@ -859,6 +859,17 @@ public:
         detail::must(cbs_charge(handle.get(), number(server), ticks));
     }
 
+    // Ends the job of a server that got the last unit, although the job has units left. This is
+    // Unit::finish for a loop that is done with the unit: call this before the house is asked for
+    // anything but a charge.
+    // Throws Error with CBS_HOUSE_NOT_RUNNING unless the server ran the last unit, which was not
+    // the last of its job; if a tick has passed since that was not charged for the unit; and if the
+    // server has taken a job since.
+    void finish(std::size_t server) {
+        detail::must(cbs_finish(handle.get(), number(server)));
+        served[server].current.reset();
+    }
+
     // Has the figures of each server kept from now on, as the house runs in real time: by Realtime,
     // or by next and done. names[i] is the name of server i; an empty one, or none, is the server's
     // number. A job that was accepted before counts from the first question on.

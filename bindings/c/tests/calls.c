@@ -116,6 +116,7 @@ static void no_house(struct cbs_handle *handle, uint32_t status) {
     CHECK(cbs_turn(handle, &turn) == status && untouched(&turn, sizeof turn));
     CHECK(cbs_advance(handle, 1) == status);
     CHECK(cbs_charge(handle, 0, 1) == status);
+    CHECK(cbs_finish(handle, 0) == status);
     CHECK(cbs_charges(handle, 0, &number, &other) == status && number == UNTOUCHED && other == UNTOUCHED);
     CHECK(cbs_now(handle, &number) == status && number == UNTOUCHED);
     CHECK(cbs_idle_span(handle, &number) == status && number == UNTOUCHED);
@@ -133,6 +134,7 @@ static void no_server(struct cbs_handle *house, uint16_t server) {
     CHECK(cbs_view(house, server, &view) == CBS_HOUSE_NO_SUCH_SERVER && untouched(&view, sizeof view));
     CHECK(cbs_promised(house, server, &low, &high) == CBS_HOUSE_NO_SUCH_SERVER && low == UNTOUCHED && high == UNTOUCHED);
     CHECK(cbs_charge(house, server, 0) == CBS_HOUSE_NO_SUCH_SERVER);
+    CHECK(cbs_finish(house, server) == CBS_HOUSE_NO_SUCH_SERVER);
     CHECK(cbs_charges(house, server, &low, &high) == CBS_HOUSE_NO_SUCH_SERVER && low == UNTOUCHED && high == UNTOUCHED);
 }
 
@@ -466,6 +468,27 @@ static void charging(void) {
     tear_down(&setup);
 }
 
+/* A job that ends after one of its five units, and one after it. */
+static void ending_early(void) {
+    struct cbs_server servers[2] = {{2, 4, CBS_SOFT}, {1, 8, CBS_SOFT}};
+    struct setup setup;
+    set_up(&setup, servers, 2, 4, 4);
+    submit(&setup, 0, 100, 5, 0);
+    submit(&setup, 0, 101, 1, 1);
+    CHECK(cbs_finish(&setup.house, 0) == CBS_HOUSE_NOT_RUNNING); /* nobody ran */
+    runs(&setup, CBS_RUN_UNIT, 0, 0, 100);
+    CHECK(cbs_finish(&setup.house, 1) == CBS_HOUSE_NOT_RUNNING); /* the other ran */
+    shows(&setup, 0, 1, 4, false);
+    CHECK(cbs_finish(&setup.house, 0) == CBS_OK);
+    shows(&setup, 0, 1, 4, false);
+    CHECK(cbs_finish(&setup.house, 0) == CBS_HOUSE_NOT_RUNNING); /* it has ended */
+    CHECK(cbs_charge(&setup.house, 0, 2) == CBS_OK);             /* its unit took three ticks */
+    charged(&setup, 0, 2, 2);
+    runs(&setup, CBS_RUN_DONE, 0, 1, 101);
+    CHECK(cbs_finish(&setup.house, 0) == CBS_HOUSE_NOT_RUNNING); /* that was the last unit */
+    tear_down(&setup);
+}
+
 /* What is charged before a unit, and of another server; and periods of 10 that pay for three ticks. */
 static void charging_by_name(void) {
     struct setup setup;
@@ -650,6 +673,7 @@ int main(void) {
     running();
     throttling();
     charging();
+    ending_early();
     charging_by_name();
     halves();
     turning();

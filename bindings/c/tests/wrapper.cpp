@@ -603,6 +603,17 @@ static void ends_early() {
     turn.ran.unit->finish(); // after the unit it changes nothing
     CHECK(house.turn().ran.unit->last && units == 3 && held.use_count() == 2);
     CHECK(house.view(0).finished == 4 && house.now() == 4);
+    CHECK(clients[0].send([held](const cbs::Unit &) {}, 20) == cbs::Send::Sent);
+    CHECK(house.turn().ran.unit && held.use_count() == 3);
+    house.finish(0); // after its unit
+    CHECK(house.view(0).finished == 5 && held.use_count() == 2);
+    std::uint32_t status = CBS_OK;
+    try {
+        house.finish(0);
+    } catch (const cbs::Error &error) {
+        status = error.status();
+    }
+    CHECK(status == CBS_HOUSE_NOT_RUNNING);
 }
 
 int main() {

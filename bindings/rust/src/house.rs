@@ -518,6 +518,34 @@ impl<T> House<T> {
         ffi::charge(&mut self.handle, number(server)?, ticks).map_err(HouseError::of)
     }
 
+    /// Ends the job of a server that got the last unit, although it has units left, and returns the job's token. It is
+    /// [`Unit::finish`] for a loop that is done with the unit: call it before the house is asked for anything but a charge.
+    ///
+    /// # Errors
+    ///
+    /// [`HouseError::NoSuchServer`]; [`HouseError::NotRunning`], unless the server ran the last unit, and no tick has passed
+    /// since but what it was charged for that. The same if that unit was the last of its job, or if the server has taken a
+    /// job since. Nothing changed then.
+    ///
+    /// ```
+    /// use cbs::{HouseError, Mode, Plan, Ran};
+    ///
+    /// let mut plan = Plan::new();
+    /// plan.admit(2, 4, Mode::Soft)?;
+    /// let (mut house, mut clients) = plan.open(4, 4)?;
+    /// clients[0].send("frame", 5)?;
+    /// assert!(matches!(house.turn().ran, Ran::Unit(unit) if !unit.is_last()));
+    /// assert_eq!(house.finish(0)?, "frame"); // it is late: the rest is dropped
+    /// assert!(matches!(house.turn().ran, Ran::Idle));
+    /// assert_eq!(house.finish(0), Err(HouseError::NotRunning));
+    /// # Ok::<(), Box<dyn std::error::Error>>(())
+    /// ```
+    pub fn finish(&mut self, server: usize) -> Result<T, HouseError> {
+        ffi::finish(&mut self.handle, number(server)?).map_err(HouseError::of)?;
+        let token = self.servers[server].current.take();
+        Ok(token.expect("the house keeps the token of a job that got a unit"))
+    }
+
     /// Returns what a server was charged.
     ///
     /// # Errors

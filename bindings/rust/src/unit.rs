@@ -65,7 +65,8 @@ impl<T> Unit<'_, T> {
     pub fn finish(self) -> T {
         if !self.is_last() {
             // The unit has the house, so no call came between the two.
-            ffi::finish(self.handle, self.server as u16).unwrap_or_else(|status| not_answered(status));
+            ffi::finish(self.handle, self.server as u16)
+                .unwrap_or_else(|status| not_answered(status));
         }
         self.token.into_inner()
     }
@@ -167,7 +168,11 @@ impl<T> DerefMut for Token<'_, T> {
 
 impl<T> fmt::Debug for Token<'_, T> {
     fn fmt(&self, f: &mut fmt::Formatter<'_>) -> fmt::Result {
-        f.write_str(if self.is_last() { "Last(..)" } else { "Kept(..)" })
+        f.write_str(if self.is_last() {
+            "Last(..)"
+        } else {
+            "Kept(..)"
+        })
     }
 }
 

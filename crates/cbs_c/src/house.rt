@@ -1,6 +1,6 @@
 //! The calls on a house.
 
-ghost use Rattle.cbs_embed.specs.Calls.{OnHeld, InHouse, Runs, Turns, Polls, Advances, ChargesServer, ShowsCharges, TellsClock, Spans, Shows, Promises};
+ghost use Rattle.cbs_embed.specs.Calls.{OnHeld, InHouse, Runs, Turns, Polls, Advances, ChargesServer, Finishes, ShowsCharges, TellsClock, Spans, Shows, Promises};
 ghost use Rattle.cbs_embed.specs.Handles.{held_by};
 ghost use Rattle.cbs_c.specs.Values.{unit_shown, turn_shown, poll_kind, span_shown, view_shown, promise_low, promise_high};
 ghost use Rattle.cbs_c.specs.Statuses.{Answers, Tells};
@@ -71,6 +71,15 @@ pub extern "C" fn cbs_charge(house: &mut Handle, server: u16, ticks: u64) -> u32
         (held_by house.new) }
 {
     status_of(calls::charge(house, server, ticks))
+}
+
+/// Ends the job of a server that got the last unit, although it has units left. Returns the status.
+#[unsafe(no_mangle)]
+pub extern "C" fn cbs_finish(house: &mut Handle, server: u16) -> u32
+    ensures { Answers (OnHeld (InHouse (Finishes server))) (held_by house.old) result
+        (held_by house.new) }
+{
+    status_of(calls::finish(house, server))
 }
 
 /// Writes how many ticks a server was charged, in total and at most for one unit. Returns the status. Refuses a number

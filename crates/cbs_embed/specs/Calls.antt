@@ -2,12 +2,13 @@
 use Rattle.std.specs.Prelude.{ℕ, slice_get, ◌≡◌, ◌↔◌, IsTrue, ◌+◌, ◌<◌, ◌≤◌, Option, Some, None, Result, Ok, Err, length, map}
 use Rattle.std.specs.Global.{Global}
 use Rattle.cbs_core.specs.Agreement.{Agrees}
+use Rattle.cbs_job.specs.declared.completion.Completion.{Completion}
 use Rattle.cbs_steps.specs.History.{History}
 use Rattle.cbs_steps.specs.declared.charges.Charges as charges
 use Rattle.cbs_steps.specs.declared.view.ServerView.{ServerView}
 use Rattle.cbs_steps.specs.declared.reply.Ran.{Ran}
 use Rattle.cbs_steps.specs.declared.reply.Ran.TheVariants as ran
-use Rattle.cbs_clients.specs.Calls.{PollOf, RunOf, TurnOf, AdvanceOf, ChargeOf, ChargesOf, ClockOf, SpanOf, ViewOf, PromiseOf, LooksAtRing, SendOf, EndOf}
+use Rattle.cbs_clients.specs.Calls.{PollOf, RunOf, TurnOf, AdvanceOf, ChargeOf, FinishOf, ChargesOf, ClockOf, SpanOf, ViewOf, PromiseOf, LooksAtRing, SendOf, EndOf}
 use Rattle.cbs_clients.specs.Clients.{free, slots_of}
 use Rattle.cbs_clients.specs.Houses.{core_of, IsHouseOnTime, IsHousePaced, received, HandsOutResults}
 use Rattle.cbs_clients.specs.Messages.{jobs_among}
@@ -130,6 +131,21 @@ abbrev pub ChargesServer : ℕ → ℕ → TheHouse → Result (Unit {0}) Refusa
 ChargesServer s n old (Ok x) new = ChargeOf counting s n old (Ok x) new
 ChargesServer s n old (Err (refused.House e)) new = ChargeOf counting s n old (Err e) new
 ChargesServer s n old (Err _) new = ⊥
+
+-- The job of server s that got the last unit ended early in the house, and then its result was dropped
+pub record FinishesAndDrops (s : ℕ) (old new : TheHouse) : Type 0 where
+  pub done : Completion
+  pub between : TheHouse
+  pub finish : FinishOf counting s old (Ok done) between
+  pub drops : HandsOutResults s between new
+  pub on_time : IsHouseOnTime old → IsHouseOnTime new
+  pub paced : IsHousePaced old → IsHousePaced new
+
+-- a job of server s ended early, or the house refused it, and is the same
+abbrev pub Finishes : ℕ → TheHouse → Result (Unit {0}) Refusal → TheHouse → Type 0
+Finishes s old (Ok x) new = FinishesAndDrops s old new
+Finishes s old (Err (refused.House e)) new = FinishOf counting s old (Err e) new
+Finishes s old (Err _) new = ⊥
 
 -- the result is what server s was charged, or that the house has no such server; the house is the same
 abbrev pub ShowsCharges : ℕ → TheHouse → Result charges.Charges Refusal → TheHouse → Type 0

@@ -1,6 +1,6 @@
 //! The calls on a house or a client in a handle.
 
-ghost use Rattle.cbs_embed.specs.Calls.{OnHeld, InHouse, InClient, Runs, Turns, Polls, Advances, ChargesServer, ShowsCharges, TellsClock, Spans, Shows, Promises, Sends, Ends, Waits};
+ghost use Rattle.cbs_embed.specs.Calls.{OnHeld, InHouse, InClient, Runs, Turns, Polls, Advances, ChargesServer, Finishes, ShowsCharges, TellsClock, Spans, Shows, Promises, Sends, Ends, Waits};
 ghost use Rattle.cbs_embed.specs.Handles.{held_by};
 ghost use Rattle.cbs_embed.specs.Paces.{Asks, BeginsPace, EndsUnit};
 ghost use Rattle.cbs_pace.specs.Paces.{time_to};
@@ -51,6 +51,15 @@ pub fn charge(handle: &mut Handle, server: u16, ticks: u64) -> Result<(), Refusa
         (held_by handle.new) }
 {
     on_house::charge(handle.house_mut()?, server, ticks)
+}
+
+/// Ends the job of a server that got the last unit, although it has units left, as [`House::finish`] does, and refuses by
+/// the same errors.
+pub fn finish(handle: &mut Handle, server: u16) -> Result<(), Refusal>
+    ensures { OnHeld (InHouse (Finishes server)) (held_by handle.old) result
+        (held_by handle.new) }
+{
+    on_house::finish(handle.house_mut()?, server)
 }
 
 /// Returns what a server was charged, as [`House::charges`] does.

@@ -1,7 +1,7 @@
 //! What the calls on a handle do to its house.
 
 ghost use Rattle.cbs_clients.specs.Houses.{NamesJob};
-ghost use Rattle.cbs_embed.specs.Calls.{Drops, Runs, Turns, Polls, Advances, ChargesServer, ShowsCharges, TellsClock, Spans, Shows, Promises, NamesToken};
+ghost use Rattle.cbs_embed.specs.Calls.{Drops, Runs, Turns, Polls, Advances, ChargesServer, Finishes, ShowsCharges, TellsClock, Spans, Shows, Promises, NamesToken};
 ghost use Rattle.cbs_embed.specs.Jobs.{counting};
 
 use crate::job::UnitJob;
@@ -76,6 +76,20 @@ pub(crate) fn charge(house: &mut House<UnitJob>, server: u16, ticks: u64) -> Res
     house
         .charge_server(server, ticks)
         .map_err(|error| Refusal::House(error))
+}
+
+/// Ends the job of a server that got the last unit, although it has units left. No result is kept: the host has the job's
+/// token from that unit.
+pub(crate) fn finish(house: &mut House<UnitJob>, server: u16) -> Result<(), Refusal>
+    ensures { Finishes server house.old result house.new }
+{
+    match house.finish(server) {
+        Ok(_done) => {
+            house.discard_results(server);
+            Ok(())
+        }
+        Err(error) => Err(Refusal::House(error)),
+    }
 }
 
 /// Returns what a server was charged.

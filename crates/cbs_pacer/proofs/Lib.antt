@@ -1,4 +1,5 @@
 pub mod Same
+pub mod Still
 pub mod Units
 pub mod Spans
 pub mod Clocks
