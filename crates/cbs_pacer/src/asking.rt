@@ -175,7 +175,6 @@ impl Pacer {
     }
 
     /// Lets the ticks pass that are over, as long as nobody is ready.
-    #[tactic(auto, using(crate::proofs::Still::made_still))]
     fn catch_up<W: Work, A: Allocator>(&mut self, house: &mut House<W, A>)
         ensures passes { Passes W.meaning self.old.pace house.old house.new self.new.pace }
         ensures doing { (doing_of self.new) ≡ (doing_of self.old) }
