@@ -6,6 +6,7 @@ mod calls;
 mod charges;
 mod closing;
 mod collecting;
+mod early;
 mod errors;
 mod figures;
 mod handing;

@@ -53,6 +53,8 @@ pub enum Row {
     Charge(u64, Result<(), HouseError>),
     /// A charge of a server: its number, and the ticks.
     ChargeServer(u16, u64, Result<(), HouseError>),
+    /// An early end of the job of a server that got the last unit: the job's number and its output so far.
+    Finish(u16, Result<(u64, u64), HouseError>),
     Drain(Result<(), HouseError>),
     /// A turn that takes this many messages, runs no unit, and advances by this many ticks.
     Turn(u64, u64),
@@ -305,6 +307,10 @@ fn passes<A: Allocator>(rt: &impl Abort, at: (&str, usize), house: &mut House<Su
         Row::ChargeServer(server, ticks, wanted) => {
             let answer = house.charge_server(server, ticks);
             same_at(rt, at, "charge_server", answer, wanted);
+        }
+        Row::Finish(server, wanted) => {
+            let answer = house.finish(server).map(|done| (done.seq, done.result));
+            same_at(rt, at, "finish", answer, wanted);
         }
         Row::Turn(took, advanced) => turns(rt, at, house, turn(took, Ran::Idle, advanced)),
         Row::DoneTurn(took, seq, output) => {

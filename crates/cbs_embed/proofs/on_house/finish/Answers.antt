@@ -4,7 +4,7 @@ use Rattle.cbs_embed.proofs.on_house.finish.Goals as goal
 
 pub returns-in-Ok : goal.returns-in-Ok
 returns-in-Ok c =
-    let dropped = c.discard_results.ensures in
+    let dropped = c.discard_results.ensures.discarded in
     record {
       done = c.in-Ok._done;
       between = c.finish.new.self;
