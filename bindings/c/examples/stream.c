@@ -6,8 +6,8 @@ static const struct cbs_server servers[2] = {{6, 20, CBS_SOFT}, {14, 20, CBS_SOF
 
 int main(void) {
     struct cbs_handle house = CBS_HANDLE_INIT, clients[2] = {CBS_HANDLE_INIT, CBS_HANDLE_INIT};
-    uint64_t now = 0, made = 0, number;
-    unsigned shown = 0, dropped = 0;
+    uint64_t now = 0, made = 0, begun = 0, number;
+    unsigned in_time = 0, dropped = 0;
     if (cbs_open(servers, 2, 16, 16, &house, clients, 2) != CBS_OK) {
         return 1;
     }
@@ -20,16 +20,19 @@ int main(void) {
         if (cbs_turn(&house, &turn) != CBS_OK || cbs_now(&house, &now) != CBS_OK) {
             return 1;
         }
-        if (turn.ran.server != 0 || turn.ran.kind < CBS_RUN_UNIT) {
+        if (turn.ran.kind < CBS_RUN_UNIT || turn.ran.server != 0) {
             continue;
         }
         if (turn.ran.kind == CBS_RUN_DONE) {
-            shown++;
-        } else if (now > turn.ran.token + 40 && cbs_finish(&house, 0) == CBS_OK) {
-            dropped++; /* it is late: the units that it has left are not run */
+            in_time += now <= turn.ran.token + 40;
+        } else if (turn.ran.seq == begun) { /* the first unit of a frame */
+            begun++;
+            if (now > turn.ran.token + 15 && cbs_finish(&house, 0) == CBS_OK) {
+                dropped++; /* it would be late: its other units are not run */
+            }
         }
     }
-    printf("%u frames are shown, %u dropped\n", shown, dropped);
+    printf("of %u frames %u are in time, %u dropped\n", (unsigned)begun, in_time, dropped);
     cbs_free(&clients[0]);
     cbs_free(&clients[1]);
     cbs_free(&house);
