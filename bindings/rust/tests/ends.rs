@@ -193,7 +193,7 @@ fn each_handle_hears_of_its_job() {
         let ended = house.run_until_closed(|unit| {
             unit.run();
             units += 1;
-            if units == 6 {
+            if units == 5 {
                 stopper.stop();
             }
         });

@@ -121,7 +121,7 @@ fn a_job_ends_early() {
         _ => ControlFlow::Continue(unit),
     });
     client.send(job, 100).unwrap();
-    let (job, whole) = Job::breakable(|unit| ControlFlow::<(), _>::Continue(unit));
+    let (job, whole) = Job::breakable(ControlFlow::<(), u32>::Continue);
     client.send(job, 2).unwrap();
     drop(client);
     assert_eq!(house.run_jobs(), Ok(Ended::Closed));
