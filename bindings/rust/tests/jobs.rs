@@ -147,6 +147,6 @@ fn a_panic_ends_its_job_at_once() {
     client.send(job, 500).unwrap();
     drop(client);
     assert_eq!(house.run_jobs(), Ok(Ended::Closed));
-    assert!(matches!(handle.join(), Err::<(), _>(JobError::Panicked(_))));
+    assert!(matches!(handle.join(), Err(JobError::Panicked(_))));
     assert_eq!(house.now(), 1);
 }
