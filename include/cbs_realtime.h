@@ -207,7 +207,7 @@ static inline uint64_t cbs_clock_worked(void) {
  * lives longer than whoever serves the house and whoever reads. */
 struct cbs_live {
     size_t servers;           /* how many there are */
-    size_t backlog;
+    size_t backlog;           /* how many of their jobs are unfinished at most */
     const char *const *names;
     struct cbs_server *rates; /* their reservations */
     pthread_mutex_t lock;     /* held to read or write what follows */
@@ -284,19 +284,23 @@ static inline uint32_t cbs_live_read(struct cbs_live *live, size_t server,
     return CBS_OK;
 }
 
-/* Writes the head of the table, and the row of a server: at most n bytes, with the zero byte, as
- * snprintf does. They have no end of line. */
+/* Writes the head of the table, with no end of line: at most n bytes, as snprintf does. Returns
+ * what snprintf returns. */
 static inline int cbs_live_head(char *out, size_t n) {
     return snprintf(out, n, "%-14s %9s %7s %10s %10s %10s %11s %10s %10s", "server", "jobs done",
                     "share", "least ms", "mean ms", "99 % ms", "greatest ms", "late units",
                     "most ticks");
 }
 
+/* Writes the row of a server in the same way. Returns -1, and writes nothing, if there is no such
+ * server. */
 static inline int cbs_live_row(struct cbs_live *live, size_t server, char *out, size_t n) {
     struct cbs_figures of;
     char number[24];
+    if (cbs_live_read(live, server, &of) != CBS_OK) {
+        return -1;
+    }
     const char *name = live->names == NULL ? NULL : live->names[server];
-    cbs_live_read(live, server, &of);
     snprintf(number, sizeof number, "%lu", CBS_CAST(unsigned long, server));
     uint64_t share = cbs_figures_share(&of);
     return snprintf(out, n,

@@ -297,6 +297,7 @@ static void a_house_with_names(void) {
            "000       3.000          0          0\n"
            "1                      1   50.0 %     5.500      5.500      5."
            "500       5.500          0          0\n");
+    CHECK(cbs_live_row(&live, 2, NULL, 0) == -1);
     CHECK(cbs_live_read(&live, 2, &of) == CBS_HOUSE_NO_SUCH_SERVER && untouched(&of, sizeof of));
     cbs_live_close(&live);
     cbs_bell_close(&bell);

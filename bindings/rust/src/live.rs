@@ -116,7 +116,7 @@ impl Figures {
     /// Returns how many units ended after the deadline by which they were chosen.
     #[must_use]
     pub fn late(&self) -> u64 {
-        self.lateness.count - self.lateness.powers[0]
+        self.lateness.count.saturating_sub(self.lateness.powers[0])
     }
 }
 
