@@ -330,9 +330,9 @@ uint32_t cbs_charge(struct cbs_handle *house, uint16_t server, uint64_t ticks);
 
 /* Ends the job that got the last unit of all, although it has units left: a frame that is late, say.
  * The job leaves its queue, and counts as finished. In hindsight it had only the units that it got,
- * from its send on: no clock, budget or deadline changes, the server may still be charged for the
- * unit, and what was promised of others is kept. Call this in the unit, or after it and before the
- * house is asked for anything but a charge. The job's token is the program's: no call tells it again.
+ * from its send on: no clock, budget or deadline changes, and the server may still be charged for the
+ * unit. Call this in the unit, or after it and before the house is asked for anything but a charge.
+ * The job's token is the program's: no call tells it again.
  * Refuses, in this order, by CBS_HOUSE_NO_SUCH_SERVER; and by CBS_HOUSE_NOT_RUNNING unless the server
  * ran the last unit, which was not the last of its job, and no tick has passed since but what it was
  * charged, and no job of this server was taken since. */

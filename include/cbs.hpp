@@ -114,8 +114,8 @@ struct Unit {
     bool last;           // whether this is the last unit of the job
 
     // Ends the job with this unit, although the job has units left: a frame that is late, say. In
-    // hindsight the job had only the units that it got, so no promise of others is broken. Call
-    // this while the unit is done: after that, and in a job's last unit, this changes nothing.
+    // hindsight the job had only the units that it got. Call this while the unit is done: after
+    // that, and in a job's last unit, this changes nothing.
     void finish() const noexcept {
         if (ends != nullptr) {
             *ends = true;

@@ -43,8 +43,8 @@ impl<T> Unit<'_, T> {
     /// Ends the job with this unit, although it has units left, and returns its token: a frame that is late, say. The job
     /// leaves its queue, and counts as finished.
     ///
-    /// In hindsight the job had only the units that it got, from its send on. So no clock, budget or deadline changes, and
-    /// what was promised of others is kept. The server is still charged for this unit. If it is the last unit of the job
+    /// In hindsight the job had only the units that it got, from its send on. So no clock, budget or deadline changes. The
+    /// server is still charged for this unit. If it is the last unit of the job
     /// anyway, the call returns the token and does nothing more.
     ///
     /// ```
