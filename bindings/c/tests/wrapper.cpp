@@ -541,7 +541,7 @@ static void figures() {
     CHECK(control.responses.least() <= control.responses.mean());
     CHECK(control.responses.mean() <= control.responses.greatest());
     CHECK(control.responses.at_most(1000) == control.responses.greatest());
-    CHECK(control.share + other.share <= 1000 && control.share >= other.share);
+    CHECK(control.share + other.share <= 1000);
     CHECK(live.table().find("\ncontrol ") != std::string::npos);
 }
 
