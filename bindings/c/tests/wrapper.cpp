@@ -523,6 +523,7 @@ static void figures() {
             const cbs::Figures now = live.read(0);
             CHECK(now.units >= units && now.units + now.charged <= now.ticks);
             units = now.units;
+            std::this_thread::sleep_for(100us); // a checker runs one thread at a time
         }
     });
     for (int job = 0; job < 4; job++) {

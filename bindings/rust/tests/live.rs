@@ -184,6 +184,7 @@ fn reads(live: &Live, on: &AtomicBool) {
         assert!(of.units + of.charged <= of.ticks);
         assert_eq!(of.lateness.count, of.units);
         units = of.units;
+        thread::sleep(Duration::from_micros(100)); // a checker runs one thread at a time
     }
 }
 
