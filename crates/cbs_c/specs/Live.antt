@@ -1,5 +1,5 @@
 -- What C hands to the figures of a server.
-use Rattle.std.specs.Prelude.{ℕ, ◌+◌, ◌*◌, ◌^◌, ◌==◌, Option, Some, None, if◌then◌else◌}
+use Rattle.std.specs.Prelude.{ℕ, ◌+◌, ◌*◌, ◌^◌, ◌==◌, Some, None, if◌then◌else◌}
 use Rattle.cbs_embed.specs.declared.server.Server.{Server}
 use Rattle.cbs_live.specs.declared.figures.Ended.{Ended}
 use Rattle.cbs_live.specs.declared.late.Told.{Told}

@@ -1,6 +1,6 @@
 //! The calls on a house.
 
-ghost use Rattle.cbs_embed.specs.Calls.{OnHeld, InHouse, Runs, Turns, Polls, Advances, ChargesServer, Finishes, ShowsCharges, TellsClock, Spans, Shows, Promises};
+ghost use Rattle.cbs_embed.specs.Calls.{Runs, Turns, Polls, Advances, ChargesServer, Finishes, ShowsCharges, TellsClock, Spans, Shows, Promises, OnHouse};
 ghost use Rattle.cbs_embed.specs.Handles.{held_by};
 ghost use Rattle.cbs_c.specs.Values.{unit_shown, turn_shown, poll_kind, span_shown, view_shown, promise_low, promise_high};
 ghost use Rattle.cbs_c.specs.Statuses.{Answers, Tells};
@@ -12,7 +12,7 @@ use cbs_embed::{Handle, calls};
 /// Runs one unit, and writes what ran. Returns the status.
 #[unsafe(no_mangle)]
 pub extern "C" fn cbs_run(house: &mut Handle, out: &mut Unit) -> u32
-    ensures { Tells (OnHeld (InHouse Runs)) unit_shown (held_by house.old) out.old result
+    ensures { Tells (OnHouse Runs) unit_shown (held_by house.old) out.old result
         (held_by house.new) out.new }
 {
     match calls::run(house) {
@@ -27,7 +27,7 @@ pub extern "C" fn cbs_run(house: &mut Handle, out: &mut Unit) -> u32
 /// Takes a turn, and writes what it did. Returns the status.
 #[unsafe(no_mangle)]
 pub extern "C" fn cbs_turn(house: &mut Handle, out: &mut Turn) -> u32
-    ensures { Tells (OnHeld (InHouse Turns)) turn_shown (held_by house.old) out.old result
+    ensures { Tells (OnHouse Turns) turn_shown (held_by house.old) out.old result
         (held_by house.new) out.new }
 {
     match calls::turn(house) {
@@ -43,7 +43,7 @@ pub extern "C" fn cbs_turn(house: &mut Handle, out: &mut Turn) -> u32
 /// that no server has.
 #[unsafe(no_mangle)]
 pub extern "C" fn cbs_poll(house: &mut Handle, server: u16, kind: &mut u32) -> u32
-    ensures { Tells (OnHeld (InHouse (Polls server))) poll_kind (held_by house.old) kind.old result
+    ensures { Tells (OnHouse (Polls server)) poll_kind (held_by house.old) kind.old result
         (held_by house.new) kind.new }
 {
     match calls::poll(house, server) {
@@ -58,7 +58,7 @@ pub extern "C" fn cbs_poll(house: &mut Handle, server: u16, kind: &mut u32) -> u
 /// Lets ticks pass. Returns the status.
 #[unsafe(no_mangle)]
 pub extern "C" fn cbs_advance(house: &mut Handle, ticks: u64) -> u32
-    ensures { Answers (OnHeld (InHouse (Advances ticks))) (held_by house.old) result
+    ensures { Answers (OnHouse (Advances ticks)) (held_by house.old) result
         (held_by house.new) }
 {
     status_of(calls::advance(house, ticks))
@@ -67,7 +67,7 @@ pub extern "C" fn cbs_advance(house: &mut Handle, ticks: u64) -> u32
 /// Charges a server the ticks that its last unit took after its first tick. Returns the status.
 #[unsafe(no_mangle)]
 pub extern "C" fn cbs_charge(house: &mut Handle, server: u16, ticks: u64) -> u32
-    ensures { Answers (OnHeld (InHouse (ChargesServer server ticks))) (held_by house.old) result
+    ensures { Answers (OnHouse (ChargesServer server ticks)) (held_by house.old) result
         (held_by house.new) }
 {
     status_of(calls::charge(house, server, ticks))
@@ -76,7 +76,7 @@ pub extern "C" fn cbs_charge(house: &mut Handle, server: u16, ticks: u64) -> u32
 /// Ends the job of a server that got the last unit, although it has units left. Returns the status.
 #[unsafe(no_mangle)]
 pub extern "C" fn cbs_finish(house: &mut Handle, server: u16) -> u32
-    ensures { Answers (OnHeld (InHouse (Finishes server))) (held_by house.old) result
+    ensures { Answers (OnHouse (Finishes server)) (held_by house.old) result
         (held_by house.new) }
 {
     status_of(calls::finish(house, server))
@@ -91,9 +91,9 @@ pub extern "C" fn cbs_charges(
     total: &mut u64,
     most: &mut u64,
 ) -> u32
-    ensures total { Tells (OnHeld (InHouse (ShowsCharges server))) (λ charges.
+    ensures total { Tells (OnHouse (ShowsCharges server)) (λ charges.
         charges.total) (held_by house.old) total.old result (held_by house.new) total.new }
-    ensures most { Tells (OnHeld (InHouse (ShowsCharges server))) (λ charges.
+    ensures most { Tells (OnHouse (ShowsCharges server)) (λ charges.
         charges.most) (held_by house.old) most.old result (held_by house.new) most.new }
 {
     match calls::charges(house, server) {
@@ -109,7 +109,7 @@ pub extern "C" fn cbs_charges(
 /// Writes the clock. Returns the status.
 #[unsafe(no_mangle)]
 pub extern "C" fn cbs_now(house: &mut Handle, out: &mut u64) -> u32
-    ensures { Tells (OnHeld (InHouse TellsClock)) (λ n.
+    ensures { Tells (OnHouse TellsClock) (λ n.
         n) (held_by house.old) out.old result (held_by house.new) out.new }
 {
     tell(out, calls::now(house))
@@ -118,7 +118,7 @@ pub extern "C" fn cbs_now(house: &mut Handle, out: &mut u64) -> u32
 /// Writes for how many ticks no server will be ready, or `u64::MAX` if one is ready now. Returns the status.
 #[unsafe(no_mangle)]
 pub extern "C" fn cbs_idle_span(house: &mut Handle, out: &mut u64) -> u32
-    ensures { Tells (OnHeld (InHouse Spans)) span_shown (held_by house.old) out.old result
+    ensures { Tells (OnHouse Spans) span_shown (held_by house.old) out.old result
         (held_by house.new) out.new }
 {
     match calls::idle_span(house) {
@@ -133,7 +133,7 @@ pub extern "C" fn cbs_idle_span(house: &mut Handle, out: &mut u64) -> u32
 /// Writes the view of a server. Returns the status. Refuses a number that no server has.
 #[unsafe(no_mangle)]
 pub extern "C" fn cbs_view(house: &mut Handle, server: u16, out: &mut View) -> u32
-    ensures { Tells (OnHeld (InHouse (Shows server))) view_shown (held_by house.old) out.old result
+    ensures { Tells (OnHouse (Shows server)) view_shown (held_by house.old) out.old result
         (held_by house.new) out.new }
 {
     match calls::view(house, server) {
@@ -154,9 +154,9 @@ pub extern "C" fn cbs_promised(
     lower: &mut u64,
     upper: &mut u64,
 ) -> u32
-    ensures lower { Tells (OnHeld (InHouse (Promises server))) promise_low (held_by house.old)
+    ensures lower { Tells (OnHouse (Promises server)) promise_low (held_by house.old)
         lower.old result (held_by house.new) lower.new }
-    ensures upper { Tells (OnHeld (InHouse (Promises server))) promise_high (held_by house.old)
+    ensures upper { Tells (OnHouse (Promises server)) promise_high (held_by house.old)
         upper.old result (held_by house.new) upper.new }
 {
     match calls::promised(house, server) {

@@ -2,12 +2,9 @@
 
 ghost use Rattle.std.specs.Prelude.{◌≡◌, ◌+◌, ◌-◌, ◌/◌, ◌^◌, ◌≤◌, ℕ, List, ◌∷◌, length, min};
 ghost use Rattle.cbs_c.specs.Live.{told_of, ended_of};
-ghost use Rattle.cbs_live.specs.Figures.{Past, past_with_jobs, past_with_unit, share_of, AreFiguresOf};
-ghost use Rattle.cbs_live.specs.Late.{IsToldAfter};
+ghost use Rattle.cbs_live.specs.Figures.{past_with_jobs, past_with_unit, share_of, Notes};
+ghost use Rattle.cbs_live.specs.Late.{OfEachStart};
 ghost use Rattle.cbs_live.specs.Spreads.{most, IsSpreadOf, IsCounted, AreAtMost, mean_of};
-ghost use Rattle.cbs_rate.specs.Rate.{Rate};
-ghost use Rattle.cbs_rules.specs.Rules.{State};
-ghost use Rattle.cbs_rules.specs.declared.mode.Mode.{Mode};
 
 use crate::values::{Unit, View, wide};
 use cbs_embed::Server;
@@ -52,8 +49,7 @@ pub extern "C" fn cbs_figures_accepted(
     accepted: u64,
     time: u64,
 )
-    ensures { (past : Past) → AreFiguresOf figures.old came.old past
-        → AreFiguresOf figures.new came.new (past_with_jobs accepted time past) }
+    ensures { Notes figures.old came.old figures.new came.new (past_with_jobs accepted time) }
 {
     figures.note_accepted(came, accepted, time);
 }
@@ -69,9 +65,8 @@ pub extern "C" fn cbs_figures_ended(
     charged: u64,
     lateness: u64,
 )
-    ensures { (past : Past) → AreFiguresOf figures.old came.now past
-        → AreFiguresOf figures.new came.now
-        (past_with_unit (length came.now) (ended_of unit.now time charged lateness) past) }
+    ensures { Notes figures.old came.now figures.new came.now
+        (past_with_unit (length came.now) (ended_of unit.now time charged lateness)) }
 {
     figures.note_ended(came, ended(unit, time, charged, lateness));
 }
@@ -87,9 +82,8 @@ pub extern "C" fn cbs_figures_share(figures: &Figures) -> u64
 /// Returns by how many ticks a unit of a server ended after the deadline by which it was chosen.
 #[unsafe(no_mangle)]
 pub extern "C" fn cbs_lateness(server: &Server, view: &View, clock: u64, charged: u64) -> u64
-    ensures { (mode : Mode) → (rate : Rate) → (now : ℕ) → (before : State)
-        → IsToldAfter (told_of server.now view.now) mode rate now before
-        → result ≡ min (clock + charged - before.deadline) most }
+    ensures { OfEachStart (told_of server.now view.now) (λ before.
+        result ≡ min (clock + charged - before.deadline) most) }
 {
     told(server, view).lateness(clock, charged)
 }

@@ -1,9 +1,9 @@
 //! The calls on a house in real time. The host reads its clock, and the library none.
 
-ghost use Rattle.std.specs.Prelude.{◌≡◌, max, min};
-ghost use Rattle.cbs_pace.specs.Paces.{time_to};
+ghost use Rattle.std.specs.Prelude.{◌≡◌, max};
+ghost use Rattle.cbs_pace.specs.Paces.{time_to, measured};
 ghost use Rattle.cbs_pace.specs.Units.{rounding_of};
-ghost use Rattle.cbs_embed.specs.Calls.{OnHeld, InHouse};
+ghost use Rattle.cbs_embed.specs.Calls.{OnHouse};
 ghost use Rattle.cbs_embed.specs.Handles.{held_by};
 ghost use Rattle.cbs_embed.specs.Paces.{Asks, BeginsPace, EndsUnit};
 ghost use Rattle.cbs_c.specs.Paces.{next_shown};
@@ -62,7 +62,7 @@ pub extern "C" fn cbs_pace(
     time: u64,
     pacer: &mut Pacer,
 ) -> u32
-    ensures { Tells (OnHeld (InHouse (BeginsPace (max tick 1) (rounding_of carry) time))) (λ p.
+    ensures { Tells (OnHouse (BeginsPace (max tick 1) (rounding_of carry) time)) (λ p.
         p) (held_by house.old) pacer.old result (held_by house.new) pacer.new }
 {
     match calls::pace(house, Tick::at_least_one(tick), Rounding::of(carry), time) {
@@ -77,7 +77,7 @@ pub extern "C" fn cbs_pace(
 /// Takes a reading of the host's clock, in nanoseconds, and writes what the host does next. Returns the status.
 #[unsafe(no_mangle)]
 pub extern "C" fn cbs_next(house: &mut Handle, pacer: &mut Pacer, time: u64, out: &mut Next) -> u32
-    ensures { Tells (OnHeld (InHouse (Asks time (time_to time pacer.old.pace) pacer.old pacer.new)))
+    ensures { Tells (OnHouse (Asks time (time_to time pacer.old.pace) pacer.old pacer.new))
         next_shown (held_by house.old) out.old result (held_by house.new) out.new }
 {
     match calls::next(house, pacer, time) {
@@ -99,8 +99,8 @@ pub extern "C" fn cbs_next_measured(
     took: u64,
     out: &mut Next,
 ) -> u32
-    ensures { Tells (OnHeld (InHouse (Asks time (min took (time_to time pacer.old.pace)) pacer.old
-        pacer.new))) next_shown (held_by house.old) out.old result (held_by house.new) out.new }
+    ensures { Tells (OnHouse (Asks time (measured took time pacer.old.pace) pacer.old
+        pacer.new)) next_shown (held_by house.old) out.old result (held_by house.new) out.new }
 {
     match calls::next_measured(house, pacer, time, took) {
         Ok(asked) => {
@@ -115,8 +115,8 @@ pub extern "C" fn cbs_next_measured(
 /// since the last one. Returns the status.
 #[unsafe(no_mangle)]
 pub extern "C" fn cbs_done(house: &mut Handle, pacer: &mut Pacer, time: u64) -> u32
-    ensures { Answers (OnHeld (InHouse (EndsUnit time (time_to time pacer.old.pace) pacer.old
-        pacer.new))) (held_by house.old) result (held_by house.new) }
+    ensures { Answers (OnHouse (EndsUnit time (time_to time pacer.old.pace) pacer.old
+        pacer.new)) (held_by house.old) result (held_by house.new) }
 {
     status_of(calls::done(house, pacer, time))
 }
@@ -129,8 +129,8 @@ pub extern "C" fn cbs_done_measured(
     time: u64,
     took: u64,
 ) -> u32
-    ensures { Answers (OnHeld (InHouse (EndsUnit time (min took (time_to time pacer.old.pace))
-        pacer.old pacer.new))) (held_by house.old) result (held_by house.new) }
+    ensures { Answers (OnHouse (EndsUnit time (measured took time pacer.old.pace)
+        pacer.old pacer.new)) (held_by house.old) result (held_by house.new) }
 {
     status_of(calls::done_measured(house, pacer, time, took))
 }

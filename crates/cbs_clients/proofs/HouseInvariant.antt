@@ -16,7 +16,7 @@ use Rattle.cbs_clients.specs.declared.message.Message.{Message}
 use Rattle.cbs_clients.specs.declared.message.Message.TheVariants.{Job, End}
 use Rattle.cbs_clients.specs.declared.rings.Rings.{Rings}
 use Rattle.cbs_results.specs.Collected.{Shelved, shelf_at, no_shelf, taken, SameShelf, OtherShelvesSame, HandsOut, IsComplete, IsNext, TakesEarly}
-use Rattle.cbs_clients.specs.HouseInvariant.{KeepsServer, Housed}
+use Rattle.cbs_clients.specs.HouseInvariant.{KeepsServer, KeepsShelf, Housed}
 use Rattle.cbs_clients.specs.Messages.{jobs_among}
 use Rattle.cbs_clients.specs.Rings.{rings_in, received_in}
 use Rattle.cbs_core.specs.Agreement.{Follows, HasHistory}
@@ -171,7 +171,7 @@ module _ {W A : Type 0} {g : Ghosts W} (work : Meaning W) (core core' : CoreHeld
   housed_change :
       (t : ℕ) → rings_in rings' ≡ rings_in rings → length shelves' ≡ length shelves → length core'.faces ≡ length core.faces → HasHistory work core'
       → core'.backlog ≡ core.backlog
-      → (t < length core.faces → KeepsServer work (held_at core' t) (received_in rings' t) (shelf_at shelves' t).handed (shelf_at shelves' t).early (shelf_at shelves' t).results)
+      → (t < length core.faces → KeepsShelf work (held_at core' t) (received_in rings' t) (shelf_at shelves' t))
       → (t < length core.faces → (shelf_at shelves' t).announced ≡ (held_at core' t).face.accepted)
       → ((s : ℕ) → s ≢ t → SameJobs (held_at core s) (held_at core' s))
       → ((s : ℕ) → s ≢ t → received_in rings' s ≡ received_in rings s)
@@ -198,7 +198,7 @@ module _ {W A : Type 0} {g : Ghosts W} (work : Meaning W) (core core' : CoreHeld
   pub housed_one :
       (t : ℕ) → rings_in rings' ≡ rings_in rings → length shelves' ≡ length shelves → length core'.faces ≡ length core.faces → (xs : List (Step W))
       → Follows work core core' xs
-      → (t < length core.faces → KeepsServer work (held_at core' t) (received_in rings' t) (shelf_at shelves' t).handed (shelf_at shelves' t).early (shelf_at shelves' t).results)
+      → (t < length core.faces → KeepsShelf work (held_at core' t) (received_in rings' t) (shelf_at shelves' t))
       → (t < length core.faces → (shelf_at shelves' t).announced ≡ (held_at core' t).face.accepted)
       → ((s : ℕ) → s ≢ t → SameJobs (held_at core s) (held_at core' s))
       → ((s : ℕ) → s ≢ t → received_in rings' s ≡ received_in rings s)

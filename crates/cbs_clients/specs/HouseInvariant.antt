@@ -24,13 +24,16 @@ pub record KeepsServer {W : Type 0} (work : Meaning W) (h : Held W) (received : 
   pub closed : h.face.closed ≡ has_end received
   pub last : end_is_last received ≡ true
 
+-- the same, if what is said of its results is said of its shelf
+abbrev pub KeepsShelf : {W : Type 0} → Meaning W → Held W → List (Message W) → Shelved → Type 0
+KeepsShelf work h received shelf = KeepsServer work h received shelf.handed shelf.early shelf.results
+
 -- What is true of the parts of a house. There are a ring and a shelf for each server, and a place for the result of
 -- each accepted job. There is a history that the core agrees with, and the backlog is at least one job
 pub record Housed {W A : Type 0} {g : Ghosts W} (work : Meaning W) (core : CoreHeld W) (rings : Rings W A g) (collector : List Shelved) : Type 0 where
   pub ring_count : length (rings_in rings) ≡ length core.faces
   pub shelf_count : length collector ≡ length core.faces
-  pub servers : (s : ℕ) → s < length core.faces → KeepsServer work (held_at core s) (received_in rings s) (shelf_at collector s).handed
-      (shelf_at collector s).early (shelf_at collector s).results
+  pub servers : (s : ℕ) → s < length core.faces → KeepsShelf work (held_at core s) (received_in rings s) (shelf_at collector s)
   pub announced : (s : ℕ) → s < length core.faces → (shelf_at collector s).announced ≡ (held_at core s).face.accepted
   pub history : HasHistory work core
   pub backlog : 0 < core.backlog

@@ -21,6 +21,7 @@ use Rattle.cbs_clients.specs.declared.message.Message.{Message}
 use Rattle.cbs_host.specs.declared.poll.Poll.{Poll}
 use Rattle.cbs_host.specs.declared.poll.Poll.TheVariants.{Nothing, Took, Closed, Full, OutOfMemory, NoSuchServer}
 use Rattle.cbs_results.specs.Collected.{shelf_at}
+use Rattle.cbs_clients.specs.HouseInvariant.{KeepsServer}
 use Rattle.cbs_clients.specs.Messages.{jobs_among}
 use Rattle.cbs_clients.specs.Meters.{AreMoves, all_steps}
 use Rattle.cbs_clients.specs.Rings.{rings_in, received_in, known_in, Ring}
@@ -102,6 +103,18 @@ module _ {W A : Type 0} {g : Ghosts W} where
   abbrev pub early_of : House W A g → ℕ → Bool
   early_of h s = (seat_at h s).early
 
+  -- what is left of the whole results of these jobs of server s: all but the first ones, which were handed out
+  abbrev pub left_of : Meaning W → House W A g → ℕ → List W → List ℕ
+  left_of work h s jobs = drop (handed_of h s) (map (whole work) jobs)
+
+  -- the whole results of the jobs received for server s, but for those that were handed out
+  abbrev pub results_due : Meaning W → House W A g → ℕ → List ℕ
+  results_due work h s = left_of work h s (jobs_among (received h s))
+
+  -- this is what the house keeps of server s, with these results
+  abbrev pub KeepsOf : Meaning W → House W A g → ℕ → List ℕ → Type 0
+  KeepsOf work h s results = KeepsServer work (held_at (core_of h) s) (received h s) (handed_of h s) (early_of h s) results
+
   -- how many results of server s were found: those handed out, and those kept
   abbrev pub result_count : House W A g → ℕ → ℕ
   result_count h s = handed_of h s + length (results_of h s)
@@ -154,7 +167,7 @@ module _ {W A : Type 0} {g : Ghosts W} where
   -- Every job received is finished. The results of each server, if none of its jobs ended early, are the whole results of
   -- those jobs, in order, except the first ones, which were handed out
   abbrev pub AllFinished : Meaning W → House W A g → Type 0
-  AllFinished work h = (s : ℕ) → s < length (core_of h).faces → early_of h s ≡ false → results_of h s ≡ drop (handed_of h s) (map (whole work) (jobs_among (received h s)))
+  AllFinished work h = (s : ℕ) → s < length (core_of h).faces → early_of h s ≡ false → results_of h s ≡ results_due work h s
 
 module _ {W A : Type 0} {g : Ghosts W} where
   -- The house made some steps, each of which is allowed at its place, and the steps took n messages. No advance among

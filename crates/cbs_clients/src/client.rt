@@ -71,7 +71,7 @@ pub struct SendRefused<W: Work> {
 }
 
 impl<W: Work, A: Allocator> Client<W, A> {
-    ghost use Rattle.std.specs.Prelude.{◌≡◌, ◌<◌, ◌≤◌, ◌+◌, ◌-◌, ◌^◌, true, false, [], ◌∷◌, ◌++◌, length, IsTrue, ◌↔◌, ◌⊎◌, IfOk, IfErr, OnOk, OnErr, IsOk, MatchResult};
+    ghost use Rattle.std.specs.Prelude.{◌≡◌, ◌<◌, ◌≤◌, ◌+◌, ◌-◌, ◌^◌, true, false, [], ◌∷◌, ◌++◌, length, IsTrue, ◌↔◌, ◌⊎◌};
     ghost use Rattle.rtrb.specs.Ring.{sent, known_free};
     ghost use Rattle.cbs_clients.specs.Messages.{jobs_among, has_end, end_is_last};
     ghost use Rattle.cbs_clients.specs.Rings.{producer_ring};

@@ -16,7 +16,8 @@ impl<W: Work, A: Allocator> House<W, A> {
 
     /// Runs until no accepted job is unfinished. If no server is ready it advances the clock by the idle span, so that
     /// no time is lost. It takes no message. If it returns `Ok`, the results of each server are those of all its jobs
-    /// received, except the first ones, which were handed out.
+    /// received, except the first ones, which were handed out. They are whole results if no job of the server ended
+    /// early.
     ///
     /// Refuses by [`HouseError::ClockEnd`] if the clock is at [`LIMIT`] with a job unfinished. The steps made stay
     /// made.

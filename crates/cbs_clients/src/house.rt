@@ -35,7 +35,7 @@ impl<W: Work, A: Allocator> Drop for House<W, A> {
 }
 
 impl<W: Work, A: Allocator> House<W, A> {
-    ghost use Rattle.std.specs.Prelude.{ℕ, ◌≡◌, ◌↔◌, ◌⊎◌, IsTrue, ◌<◌, ◌≤◌, ◌-◌, min, true, [], ◌++◌, length, IfSome, IfNone, IfOk, IfErr};
+    ghost use Rattle.std.specs.Prelude.{ℕ, ◌≡◌, ◌↔◌, ◌⊎◌, IsTrue, ◌<◌, ◌≤◌, ◌-◌, min, true, [], ◌++◌, length, IfSome, IfNone};
     ghost use Rattle.cbs_core.specs.Held.{front_output, held_at, is_running, AllSame, IsClosed};
     ghost use Rattle.cbs_clients.specs.Calls.{PollOf, RunOf, RunBy, AsksMeter, AdvanceOf, ChargeOf, FinishOf, ChargesLast, ChargesOf, ClockOf, SpanOf, ViewOf, PromiseOf, LooksAtRing};
     ghost use Rattle.cbs_clients.specs.Clients.{server_of, sent_by, IsOpened};

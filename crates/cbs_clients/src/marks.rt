@@ -1,7 +1,6 @@
 //! Marks: who may have sent something, so that a house looks only at the rings of those.
 
 ghost use Rattle.std.specs.Prelude.{ℕ, ◌≡◌, ◌≢◌, ◌≤◌, ◌<◌, IfSome, IfNone};
-ghost use Rattle.std.specs.Int.{bit_at};
 ghost use Rattle.cbs_clients.specs.Marks.{IsUnmarked};
 
 use std::alloc::{AllocError, Allocator, Global};

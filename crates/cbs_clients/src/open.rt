@@ -4,7 +4,7 @@ ghost use Rattle.std.specs.Prelude.{◌≡◌, ◌<◌, ◌≤◌, [], length, m
 ghost use Rattle.std.specs.List.{All, range_with_len};
 ghost use Rattle.cbs_core.specs.Agreement.{Agrees};
 ghost use Rattle.cbs_steps.specs.History.{Setup};
-ghost use Rattle.cbs_steps.specs.Setups.{terms_of};
+ghost use Rattle.cbs_steps.specs.Setups.{setup_of};
 ghost use Rattle.cbs_rate.specs.Refusals.{RefusesByOrMemory};
 ghost use Rattle.cbs_clients.specs.Calls.{IsNewHouse};
 ghost use Rattle.cbs_clients.specs.Clients.{server_of, ring_of, IsOpened, AreOpened, EachOpened};
@@ -48,7 +48,7 @@ pub fn open_house<W: Work, A: Allocator + Copy>(
 ) -> Result<(House<W, A>, Vec<Client<W, A>, A>), HouseError>
     requires { length modes ≡ length plan.rates }
     ensures new { IfOk result (λ r. IsNewHouse W.meaning
-        (record { servers = terms_of modes plan.rates; backlog = backlog }) r.0) }
+        (setup_of modes plan.rates backlog) r.0) }
     ensures clients { IfOk result (λ r. map server_of r.1.items
         ≡ range_with_len 0 (length plan.rates)) }
     ensures count { IfOk result (λ r. (length r.1.items ≡ length plan.rates)
@@ -75,7 +75,7 @@ pub fn open_house_of<W: Work, A: Allocator + Copy>(
 ) -> Result<(House<W, A>, Vec<Client<W, A>, A>), HouseError>
     requires { length modes.now ≡ length plan.now.rates }
     ensures new { IfOk result (λ r. IsNewHouse W.meaning
-        (record { servers = terms_of modes.now plan.now.rates; backlog = backlog }) r.0) }
+        (setup_of modes.now plan.now.rates backlog) r.0) }
     ensures clients { IfOk result (λ r. map server_of r.1.items
         ≡ range_with_len 0 (length plan.now.rates)) }
     ensures count { IfOk result (λ r. (length r.1.items ≡ length plan.now.rates)

@@ -7,13 +7,9 @@ use cbs_results::CollectError;
 use std::alloc::Allocator;
 
 impl<W: Work, A: Allocator> House<W, A> {
-    ghost use Rattle.std.specs.Prelude.{◌≡◌, ◌≤◌, ◌<◌, false, drop, length, map, IfOk, IfErr, OnOk, OnErr};
+    ghost use Rattle.std.specs.Prelude.{◌≡◌, ◌≤◌, ◌<◌, false, length, IfOk, IfErr, OnOk, OnErr};
     ghost use mathlib.Core.List.{IsPrefix};
-    ghost use Rattle.cbs_job.specs.Work.{whole};
-    ghost use Rattle.cbs_clients.specs.Houses.{core_of, rings_of, received, results_of, handed_of, early_of, SameHouse, HandsOutResults, KeepsBack};
-    ghost use Rattle.cbs_clients.specs.Messages.{jobs_among};
-    ghost use Rattle.cbs_clients.specs.HouseInvariant.{KeepsServer};
-    ghost use Rattle.cbs_core.specs.Held.{held_at};
+    ghost use Rattle.cbs_clients.specs.Houses.{core_of, rings_of, results_of, results_due, early_of, SameHouse, HandsOutResults, KeepsBack, KeepsOf};
 
     /// Returns the results of a server that were not handed out, in the order of its jobs. Refuses by
     /// [`HouseError::NoSuchServer`] if there is no such server.
@@ -25,8 +21,7 @@ impl<W: Work, A: Allocator> House<W, A> {
         // If no job of the server ended early, these results, followed by the whole results of the jobs held, are those
         // of the jobs received. Only the first ones are missing, which were handed out.
         ensures keeps { IfOk result (λ results.
-            KeepsServer W.meaning (held_at (core_of self.now) server) (received self.now server)
-            (handed_of self.now server) (early_of self.now server) results.now) }
+            KeepsOf W.meaning self.now server results.now) }
     {
         match self.collector.results(server) {
             Some(results) => Ok(results),
@@ -51,8 +46,7 @@ impl<W: Work, A: Allocator> House<W, A> {
         ensures handed { OnOk result (HandsOutResults server self.old self.new) }
         // What is handed out follows the results that were handed out before.
         ensures front { early_of self.old server ≡ false → IfOk result (λ results.
-            IsPrefix results.items (drop (handed_of self.old server)
-            (map (whole W.meaning) (jobs_among (received self.old server))))) }
+            IsPrefix results.items (results_due W.meaning self.old server)) }
         ensures rings { rings_of self.new ≡ rings_of self.old }
         ensures unchanged { OnErr result (SameHouse self.old self.new) }
         ensures known { OnOk result (server < length (core_of self.old).faces) }

@@ -13,7 +13,7 @@ ghost use Rattle.cbs_steps.specs.OnTime.{IsWorldOnTime};
 ghost use Rattle.cbs_steps.specs.Paced.{AllFinishedLate};
 ghost use Rattle.cbs_steps.specs.Promises.{promised, AllFinishedBy};
 ghost use Rattle.cbs_steps.specs.Punctual.{IsPunctual};
-ghost use Rattle.cbs_steps.specs.Setups.{terms_of, new_refusal};
+ghost use Rattle.cbs_steps.specs.Setups.{new_refusal, setup_of, history_of};
 ghost use Rattle.cbs_core.specs.Agreement.{Agrees, FollowsInHindsight, TellsOf};
 ghost use Rattle.cbs_core.specs.Calls.{AllPunctual, CompletesSteps, IsBefore, Makes, RefusesAsSubmit, Tries, TriesAll};
 ghost use Rattle.cbs_core.specs.Held.{room_of, KeepsRoom, IsOpen, HasRoom, IsRefusedBy, IsCoreOnTime, IsCorePaced, front_output, held_at, TakesJob, ClosesServer, OthersSame, AllSame, DoesRun, LeavesUnit, CountsOn, EndsJob, ended_at, running, is_running, may_end, end_refusal};
@@ -82,14 +82,11 @@ impl<W: Work, A: Allocator + Clone> Core<W, A> {
     pub fn new(alloc: A, plan: Plan, modes: Modes, backlog: u64) -> Result<Self, CoreError>
         requires { length modes ≡ length plan.rates }
         ensures start { IfOk result (λ core. Agrees W.meaning core
-            (record {
-              setup = record { servers = terms_of modes plan.rates; backlog = backlog };
-              steps = [];
-            })) }
+            (history_of modes plan.rates backlog [])) }
         ensures on_time { IfOk result (λ core. IsCoreOnTime core) }
         ensures paced { IfOk result (λ core. IsCorePaced core) }
         ensures punctual { OnOk result (AllPunctual W.meaning
-            (record { servers = terms_of modes plan.rates; backlog = backlog })) }
+            (setup_of modes plan.rates backlog)) }
         ensures refusal { RefusesByOrMemory CoreError.OutOfMemory result (new_refusal backlog) }
     {
         Core::of(alloc, &plan, &modes, backlog)
@@ -100,17 +97,11 @@ impl<W: Work, A: Allocator + Clone> Core<W, A> {
     pub fn of(alloc: A, plan: &Plan, modes: &Modes, backlog: u64) -> Result<Self, CoreError>
         requires { length modes.now ≡ length plan.now.rates }
         ensures start { IfOk result (λ core. Agrees W.meaning core
-            (record {
-              setup = record {
-                servers = terms_of modes.now plan.now.rates;
-                backlog = backlog;
-              };
-              steps = [];
-            })) }
+            (history_of modes.now plan.now.rates backlog [])) }
         ensures on_time { IfOk result (λ core. IsCoreOnTime core) }
         ensures paced { IfOk result (λ core. IsCorePaced core) }
         ensures punctual { OnOk result (AllPunctual W.meaning
-            (record { servers = terms_of modes.now plan.now.rates; backlog = backlog })) }
+            (setup_of modes.now plan.now.rates backlog)) }
         ensures refusal { RefusesByOrMemory CoreError.OutOfMemory result (new_refusal backlog) }
     {
         if backlog == 0 || backlog > MAX_BACKLOG {

@@ -5,7 +5,8 @@ ghost use Rattle.cbs_core.specs.Held.{is_some_of, runner_at, charged_at};
 
 /// The server of the last unit, what was charged for the unit, and whether its job is unfinished.
 ///
-/// A run writes only the server, and whether the job is unfinished. The server runs as long as the clock differs from the clock after the last advance.
+/// A run writes only the server, and whether the job is unfinished. The server runs as long as the clock differs from
+/// the clock after the last advance.
 #[derive(Clone, Copy)]
 pub struct LastUnit {
     /// The server of the last unit, if there was one.

@@ -63,6 +63,10 @@ abbrev pub OnHeld : {T : Type 0} → (Held → Result T Refusal → Held → Typ
 OnHeld Does None answer new = (answer ≡ Err (refused.Handle NotOpen)) × (new ≡ None)
 OnHeld Does (Some held) answer new = (after : Held) × (new ≡ Some after) × Does held answer after
 
+-- a call on a handle does this to the house in it
+abbrev pub OnHouse : {T : Type 0} → (TheHouse → Result T Refusal → TheHouse → Type 0) → Option Held → Result T Refusal → Option Held → Type 0
+OnHouse Does = OnHeld (InHouse Does)
+
 -- job number q among those received for server s has this token
 abbrev pub HasToken : TheHouse → ℕ → ℕ → ℕ → Type 0
 HasToken h s q token = slice_get (map (λ job. job.token) (jobs_among (received h s))) q ≡ Some token

@@ -3,7 +3,7 @@ use Rattle.std.specs.Prelude.{ℕ, ◌≡◌, ◌≢◌, ◌⊎◌, OnOk, OnErr,
 use Rattle.std.specs.List.{All, range_with_len}
 use Rattle.cbs_rate.specs.Rate.{Rate}
 use Rattle.cbs_rules.specs.declared.mode.Mode.{Mode}
-use Rattle.cbs_steps.specs.Setups.{terms_of}
+use Rattle.cbs_steps.specs.Setups.{setup_of}
 use Rattle.cbs_clients.specs.Calls.{IsNewHouse}
 use Rattle.cbs_clients.specs.Clients.{server_of, IsOpened}
 use Rattle.cbs_clients.specs.Houses.{rings_of}
@@ -29,7 +29,7 @@ pub record Opens (modes : List Mode) (rates : List Rate) (backlog ring : ℕ) (h
   pub clients : List TheClient
   pub holds : held ≡ Some (House house)
   pub hold : others ≡ map (λ c. Some (Client c)) clients
-  pub new : IsNewHouse counting (record { servers = terms_of modes rates; backlog = backlog }) house
+  pub new : IsNewHouse counting (setup_of modes rates backlog) house
   pub servers : map server_of clients ≡ range_with_len 0 (length rates)
   pub unused : All (IsUnused ring) clients
   pub opened : All (IsOpened (rings_of house)) clients

@@ -1,10 +1,10 @@
 //! The calls on a house or a client in a handle.
 
-ghost use Rattle.cbs_embed.specs.Calls.{OnHeld, InHouse, InClient, Runs, Turns, Polls, Advances, ChargesServer, Finishes, ShowsCharges, TellsClock, Spans, Shows, Promises, Sends, Ends, Waits};
+ghost use Rattle.cbs_embed.specs.Calls.{OnHeld, InClient, Runs, Turns, Polls, Advances, ChargesServer, Finishes, ShowsCharges, TellsClock, Spans, Shows, Promises, Sends, Ends, Waits, OnHouse};
 ghost use Rattle.cbs_embed.specs.Handles.{held_by};
 ghost use Rattle.cbs_embed.specs.Paces.{Asks, BeginsPace, EndsUnit};
-ghost use Rattle.cbs_pace.specs.Paces.{time_to};
-ghost use Rattle.std.specs.Prelude.{◌≡◌, min, OnErr};
+ghost use Rattle.cbs_pace.specs.Paces.{time_to, measured};
+ghost use Rattle.std.specs.Prelude.{◌≡◌, OnErr};
 
 use crate::handle::Handle;
 use crate::refusal::Refusal;
@@ -16,7 +16,7 @@ use cbs_pacer::{Pacer, Rounding, Tick};
 
 /// Runs one unit, as [`House::run`] does. Returns what ran, and its token.
 pub fn run(handle: &mut Handle) -> Result<Unit, Refusal>
-    ensures { OnHeld (InHouse Runs) (held_by handle.old) result (held_by handle.new) }
+    ensures { OnHouse Runs (held_by handle.old) result (held_by handle.new) }
 {
     on_house::run(handle.house_mut()?)
 }
@@ -24,7 +24,7 @@ pub fn run(handle: &mut Handle) -> Result<Unit, Refusal>
 /// Takes a turn, as [`House::turn`] does. Returns what the turn did, the token of the unit's job, and whether all is
 /// over.
 pub fn turn(handle: &mut Handle) -> Result<Turn, Refusal>
-    ensures { OnHeld (InHouse Turns) (held_by handle.old) result (held_by handle.new) }
+    ensures { OnHouse Turns (held_by handle.old) result (held_by handle.new) }
 {
     on_house::turn(handle.house_mut()?)
 }
@@ -32,14 +32,14 @@ pub fn turn(handle: &mut Handle) -> Result<Turn, Refusal>
 /// Looks for the next message of a server, as [`House::poll`] does, and returns what the poll did. Refuses by
 /// [`HouseError::NoSuchServer`] if there is no such server.
 pub fn poll(handle: &mut Handle, server: u16) -> Result<Poll, Refusal>
-    ensures { OnHeld (InHouse (Polls server)) (held_by handle.old) result (held_by handle.new) }
+    ensures { OnHouse (Polls server) (held_by handle.old) result (held_by handle.new) }
 {
     on_house::poll(handle.house_mut()?, server)
 }
 
 /// Lets ticks pass, as [`House::advance`] does, and refuses by the same error.
 pub fn advance(handle: &mut Handle, ticks: u64) -> Result<(), Refusal>
-    ensures { OnHeld (InHouse (Advances ticks)) (held_by handle.old) result (held_by handle.new) }
+    ensures { OnHouse (Advances ticks) (held_by handle.old) result (held_by handle.new) }
 {
     on_house::advance(handle.house_mut()?, ticks)
 }
@@ -47,7 +47,7 @@ pub fn advance(handle: &mut Handle, ticks: u64) -> Result<(), Refusal>
 /// Charges a server the ticks that its last unit took after its first tick, as [`House::charge_server`] does, and
 /// refuses by the same errors.
 pub fn charge(handle: &mut Handle, server: u16, ticks: u64) -> Result<(), Refusal>
-    ensures { OnHeld (InHouse (ChargesServer server ticks)) (held_by handle.old) result
+    ensures { OnHouse (ChargesServer server ticks) (held_by handle.old) result
         (held_by handle.new) }
 {
     on_house::charge(handle.house_mut()?, server, ticks)
@@ -56,7 +56,7 @@ pub fn charge(handle: &mut Handle, server: u16, ticks: u64) -> Result<(), Refusa
 /// Ends the job of a server that got the last unit, although it has units left, as [`House::finish`] does, and refuses by
 /// the same errors.
 pub fn finish(handle: &mut Handle, server: u16) -> Result<(), Refusal>
-    ensures { OnHeld (InHouse (Finishes server)) (held_by handle.old) result
+    ensures { OnHouse (Finishes server) (held_by handle.old) result
         (held_by handle.new) }
 {
     on_house::finish(handle.house_mut()?, server)
@@ -64,7 +64,7 @@ pub fn finish(handle: &mut Handle, server: u16) -> Result<(), Refusal>
 
 /// Returns what a server was charged, as [`House::charges`] does.
 pub fn charges(handle: &mut Handle, server: u16) -> Result<Charges, Refusal>
-    ensures { OnHeld (InHouse (ShowsCharges server)) (held_by handle.old) result
+    ensures { OnHouse (ShowsCharges server) (held_by handle.old) result
         (held_by handle.new) }
 {
     on_house::charges(handle.house_mut()?, server)
@@ -72,21 +72,21 @@ pub fn charges(handle: &mut Handle, server: u16) -> Result<Charges, Refusal>
 
 /// Returns the clock, as [`House::now`] does.
 pub fn now(handle: &mut Handle) -> Result<u64, Refusal>
-    ensures { OnHeld (InHouse TellsClock) (held_by handle.old) result (held_by handle.new) }
+    ensures { OnHouse TellsClock (held_by handle.old) result (held_by handle.new) }
 {
     on_house::now(handle.house_mut()?)
 }
 
 /// Returns for how many ticks no server will be ready, as [`House::idle_span`] does.
 pub fn idle_span(handle: &mut Handle) -> Result<Option<u64>, Refusal>
-    ensures { OnHeld (InHouse Spans) (held_by handle.old) result (held_by handle.new) }
+    ensures { OnHouse Spans (held_by handle.old) result (held_by handle.new) }
 {
     on_house::idle_span(handle.house_mut()?)
 }
 
 /// Returns a server's view, as [`House::view`] does.
 pub fn view(handle: &mut Handle, server: u16) -> Result<ServerView, Refusal>
-    ensures { OnHeld (InHouse (Shows server)) (held_by handle.old) result (held_by handle.new) }
+    ensures { OnHouse (Shows server) (held_by handle.old) result (held_by handle.new) }
 {
     on_house::view(handle.house_mut()?, server)
 }
@@ -94,7 +94,7 @@ pub fn view(handle: &mut Handle, server: u16) -> Result<ServerView, Refusal>
 /// Returns the tick by which all that a server accepted is finished, as [`House::promised`] does. Refuses by
 /// [`HouseError::NoSuchServer`] if there is no such server.
 pub fn promised(handle: &mut Handle, server: u16) -> Result<Option<u128>, Refusal>
-    ensures { OnHeld (InHouse (Promises server)) (held_by handle.old) result (held_by handle.new) }
+    ensures { OnHouse (Promises server) (held_by handle.old) result (held_by handle.new) }
 {
     on_house::promised(handle.house_mut()?, server)
 }
@@ -106,7 +106,7 @@ pub fn pace(
     rounding: Rounding,
     reading: u64,
 ) -> Result<Pacer, Refusal>
-    ensures { OnHeld (InHouse (BeginsPace tick rounding reading)) (held_by handle.old) result
+    ensures { OnHouse (BeginsPace tick rounding reading) (held_by handle.old) result
         (held_by handle.new) }
 {
     in_time::pace(handle.house_mut()?, tick, rounding, reading)
@@ -115,8 +115,8 @@ pub fn pace(
 /// Takes a reading of the clock, in nanoseconds, and returns what the host does next, as [`Pacer::next`] does, with the
 /// token of the job whose unit it does. After a refusal the pacer is unchanged.
 pub fn next(handle: &mut Handle, pacer: &mut Pacer, reading: u64) -> Result<Asked, Refusal>
-    ensures next { OnHeld (InHouse (Asks reading (time_to reading pacer.old.pace) pacer.old
-        pacer.new)) (held_by handle.old) result (held_by handle.new) }
+    ensures next { OnHouse (Asks reading (time_to reading pacer.old.pace) pacer.old
+        pacer.new) (held_by handle.old) result (held_by handle.new) }
     ensures kept { OnErr result (pacer.new ≡ pacer.old) }
 {
     in_time::next(handle.house_mut()?, pacer, reading)
@@ -129,8 +129,8 @@ pub fn next_measured(
     reading: u64,
     took: u64,
 ) -> Result<Asked, Refusal>
-    ensures next { OnHeld (InHouse (Asks reading (min took (time_to reading pacer.old.pace))
-        pacer.old pacer.new)) (held_by handle.old) result (held_by handle.new) }
+    ensures next { OnHouse (Asks reading (measured took reading pacer.old.pace)
+        pacer.old pacer.new) (held_by handle.old) result (held_by handle.new) }
     ensures kept { OnErr result (pacer.new ≡ pacer.old) }
 {
     in_time::next_measured(handle.house_mut()?, pacer, reading, took)
@@ -139,8 +139,8 @@ pub fn next_measured(
 /// Ends a unit that was being done, at this reading of the clock, in nanoseconds, as [`Pacer::done`] does. After a
 /// refusal the pacer is unchanged.
 pub fn done(handle: &mut Handle, pacer: &mut Pacer, reading: u64) -> Result<(), Refusal>
-    ensures done { OnHeld (InHouse (EndsUnit reading (time_to reading pacer.old.pace) pacer.old
-        pacer.new)) (held_by handle.old) result (held_by handle.new) }
+    ensures done { OnHouse (EndsUnit reading (time_to reading pacer.old.pace) pacer.old
+        pacer.new) (held_by handle.old) result (held_by handle.new) }
     ensures kept { OnErr result (pacer.new ≡ pacer.old) }
 {
     in_time::done(handle.house_mut()?, pacer, reading)
@@ -153,8 +153,8 @@ pub fn done_measured(
     reading: u64,
     took: u64,
 ) -> Result<(), Refusal>
-    ensures done { OnHeld (InHouse (EndsUnit reading (min took (time_to reading pacer.old.pace))
-        pacer.old pacer.new)) (held_by handle.old) result (held_by handle.new) }
+    ensures done { OnHouse (EndsUnit reading (measured took reading pacer.old.pace)
+        pacer.old pacer.new) (held_by handle.old) result (held_by handle.new) }
     ensures kept { OnErr result (pacer.new ≡ pacer.old) }
 {
     in_time::done_measured(handle.house_mut()?, pacer, reading, took)

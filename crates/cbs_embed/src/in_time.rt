@@ -1,7 +1,7 @@
 //! What the calls in real time on a handle do to its house.
 
-ghost use Rattle.std.specs.Prelude.{◌≡◌, min};
-ghost use Rattle.cbs_pace.specs.Paces.{time_to};
+ghost use Rattle.std.specs.Prelude.{◌≡◌};
+ghost use Rattle.cbs_pace.specs.Paces.{time_to, measured};
 ghost use Rattle.cbs_clients.specs.Houses.{NamesJob};
 ghost use Rattle.cbs_pacer.specs.Paced.{ran_next};
 ghost use Rattle.cbs_embed.specs.Calls.{Drops, NamesToken};
@@ -61,7 +61,7 @@ pub(crate) fn next_measured(
     reading: u64,
     took: u64,
 ) -> Result<Asked, Refusal>
-    ensures { Asks reading (min took (time_to reading pacer.old.pace)) pacer.old pacer.new house.old
+    ensures { Asks reading (measured took reading pacer.old.pace) pacer.old pacer.new house.old
         result house.new }
 {
     let next = pacer.next_measured(house, reading, took);
@@ -90,7 +90,7 @@ pub(crate) fn done_measured(
     reading: u64,
     took: u64,
 ) -> Result<(), Refusal>
-    ensures { EndsUnit reading (min took (time_to reading pacer.old.pace)) pacer.old pacer.new
+    ensures { EndsUnit reading (measured took reading pacer.old.pace) pacer.old pacer.new
         house.old result house.new }
 {
     pacer.done_measured(house, reading, took);

@@ -1,11 +1,6 @@
 -- All that is guaranteed for the jobs of a server.
-use Rattle.std.specs.Prelude.{ℕ, List}
 use Rattle.cbs_job.specs.Work.{Meaning}
-use Rattle.cbs_rate.specs.Rate.{Rate}
-use Rattle.cbs_rules.specs.declared.mode.Mode.{Mode}
 use Rattle.cbs_steps.specs.History.{History}
-use Rattle.cbs_steps.specs.Setups.{terms_of}
-use Rattle.cbs_steps.specs.declared.step.Step.{Step}
 use Rattle.cbs_guarantee.specs.Streams.{KeepsStreams, KeepsStreamEnds, KeepsAccepting}
 use Rattle.cbs_guarantee.specs.Late.{KeepsLate, KeepsLateEnds, KeepsLateAccepting}
 use Rattle.cbs_guarantee.specs.Promised.{KeepsPromised}
@@ -24,7 +19,3 @@ pub record IsGuaranteed {W : Type 0} (work : Meaning W) (N : History W) : Type 0
   pub accepting_overruns : KeepsAcceptingOverruns work N
   pub units : KeepsUnits work N
   pub promised : KeepsPromised work N
-
--- the history of these steps, for servers with these modes and reservations, each with this backlog
-abbrev pub history_of : {W : Type 0} → List Mode → List Rate → ℕ → List (Step W) → History W
-history_of modes rates backlog steps = record { setup = record { servers = terms_of modes rates; backlog = backlog }; steps = steps }

@@ -1,7 +1,8 @@
 //! The theorem about all lists of steps.
 
 ghost use Rattle.std.specs.Prelude.{◌≡◌, List, length};
-ghost use Rattle.cbs_guarantee.specs.Guarantees.{IsGuaranteed, history_of};
+ghost use Rattle.cbs_guarantee.specs.Guarantees.{IsGuaranteed};
+ghost use Rattle.cbs_steps.specs.Setups.{history_of};
 
 use cbs_job::Work;
 use cbs_rate::Plan;

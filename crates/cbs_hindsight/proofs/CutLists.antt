@@ -143,6 +143,19 @@ module _ {X : Type 0} where
   ]
 
   module _ (f : X → ℕ) (cut : X → X) (n : ℕ) (law : (x : X) → n ≤ f x → f (cut x) ≡ n) where
+    -- all that is needed, if an element is cut to n units
+    sum_cut-le : (xs : List X) (k : ℕ) → (k < length xs → sum_by f (take k xs) + n ≤ sum_by f (take (suc k) xs)) → sum_by f (changed_at cut xs k) ≤ sum_by f xs
+    sum_cut-le [] k h = omega arith
+    sum_cut-le (x ∷ xs) zero h =
+        let few : n ≤ f x = omega (arith, sum_by-cons f x [], h (omega arith)) in
+        omega (arith, sum_by-cons f x xs, sum_by-cons f (cut x) xs, law x few)
+    sum_cut-le (x ∷ xs) (suc k) h =
+        let rest = sum_cut-le xs k (λ lt. omega (arith, sum_by-cons f x (take k xs), sum_by-cons f x (take (suc k) xs), h (omega arith))) in
+        omega (arith, sum_by-cons f x xs, sum_by-cons f x (changed_at cut xs k), rest)
+
+    pub sum_shorter : (xs : List X) (k : ℕ) → (k < length xs → sum_by f (take k xs) + n ≤ sum_by f (take (k + 1) xs)) → sum_by f (changed_at cut xs k) ≤ sum_by f xs
+    sum_shorter xs k h = let e : k + 1 ≡ suc k = omega arith in sum_cut-le xs k (λ lt. rw e at (h lt))
+
     -- what is needed up to an element that is cut to n units
     sum_cut : (xs : List X) (k : ℕ) → k < length xs → sum_by f (take k xs) + n ≤ sum_by f (take (suc k) xs)
         → sum_by f (take (suc k) (changed_at cut xs k)) ≡ sum_by f (take k xs) + n

@@ -1,12 +1,15 @@
 -- Worked examples of a job that ends early, computed from the definitions. A job is the number of its units.
-use Rattle.std.proofs.Common.{◌≡◌, ℕ, ◌-◌, List, [], ◌∷◌, refl}
+use Rattle.std.proofs.Common.{◌≡◌, ℕ, ◌-◌, List, [], ◌∷◌, Option, Some, refl}
 use Rattle.cbs_job.specs.Work.{Meaning}
 use Rattle.cbs_rate.specs.Rate.{Rate}
 use Rattle.cbs_rules.specs.declared.mode.Mode.TheVariants.{Soft}
 use Rattle.cbs_steps.specs.Accounts.{finished}
 use Rattle.cbs_steps.specs.History.{Setup, History, account, ticks, world_after}
+use Rattle.cbs_steps.specs.Laws.{account_in}
+use Rattle.cbs_steps.specs.Promises.{when, owed, promised}
 use Rattle.cbs_steps.specs.declared.reply.Ran.TheVariants as ran
 use Rattle.cbs_steps.specs.declared.reply.Reply.TheVariants as reply
+use Rattle.cbs_steps.specs.declared.step.Step.{Step}
 use Rattle.cbs_steps.specs.declared.step.Step.TheVariants.{Submit, Run, Advance, Charge}
 use Rattle.cbs_hindsight.specs.Hindsight.{ending, hindsight, replies}
 
@@ -65,6 +68,21 @@ told_behind : replies units two ended.steps
     ≡ reply.Charged ∷ reply.Ran (ran.Done (record { server = 0; seq = 0; result = 0 })) ∷ reply.Ran (ran.Unit 0 0) ∷ reply.Accepted 0 ∷ reply.Accepted 0 ∷ []
 unfolding ticks
 told_behind = refl
+
+-- Before the first unit server 0 owed 5 units, which were promised by tick 12. In hindsight it owed 2, by tick 4.
+abbrev handed : List (Step ℕ)
+handed = Submit 1 3 ∷ Submit 0 5 ∷ []
+
+abbrev owes : History ℕ → ℕ × Option ℕ
+owes N = let a = account_in units N 0 in (owed units a, promised units a)
+
+owed_before : owes (when begun handed) ≡ (5, Some 12)
+unfolding ticks
+owed_before = refl
+
+owed_behind : owes (hindsight units shortened (ending units begun 0 0) (when begun handed)) ≡ (2, Some 4)
+unfolding ticks
+owed_behind = refl
 
 -- A job that is handed to the server between the last unit and the end makes a difference. The deadline of server 0 is 4,
 -- and stays so at tick 4, as its job is unfinished. If that job had had the one unit that it got, the server would be idle, and

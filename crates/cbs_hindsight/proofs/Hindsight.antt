@@ -1,5 +1,5 @@
 -- A job that ends early, over whole histories.
-use Rattle.std.proofs.Common.{◌≡◌, ℕ, zero, suc, ◌+◌, ◌-◌, ◌≤◌, ◌<◌, true, false, eqb, leb, ltb, List, [], ◌∷◌, ◌++◌, length, map, get_or, refl, ap, arith, inl, inr, sym, ◌∙◌, subst, Option, Some, None}
+use Rattle.std.proofs.Common.{drop, ◌≡◌, ℕ, zero, suc, ◌+◌, ◌-◌, ◌≤◌, ◌<◌, true, false, eqb, leb, ltb, List, [], ◌∷◌, ◌++◌, length, map, get_or, refl, ap, arith, inl, inr, sym, ◌∙◌, subst, Option, Some, None}
 use Rattle.std.specs.Prelude.{if◌then◌else◌}
 use Rattle.std.specs.List.{AllByRecursion}
 use Rattle.std.specs.Option.{is_some, is_none}
@@ -29,7 +29,8 @@ use Rattle.cbs_steps.proofs.FinishedJobs.{count_done_within, count_done_beyond, 
 use Rattle.cbs_steps.proofs.Running.{replenished_account, loose_account}
 use Rattle.cbs_hindsight.specs.Hindsight.{IsAtUnit}
 use Rattle.cbs_hindsight.specs.Hindsight.{Ending, IsCut, HasCut, step_cut, steps_cut, replies, does_nothing, effective_steps, effective, KeepsEffective, EndsWithUnit, IsBeside, completion_cut, EndsEarly, KeepsHindsight}
-use Rattle.cbs_hindsight.proofs.CutLists.{changed_none, changed_get, kept_at, seen_here, need_cut, done-ge}
+use Rattle.cbs_steps.specs.Promises.{owed}
+use Rattle.cbs_hindsight.proofs.CutLists.{changed_none, changed_get, sum_shorter, kept_at, seen_here, need_cut, done-ge}
 use Rattle.cbs_hindsight.proofs.Cuts.{IsEarly, IsUnit, early_before, grown_next, unit_is, chosen_active, chosen_within, shorter, cut_of, finished_cut, faces_cut, step_made, step_told, beside_made, beside_told}
 
 -- Work after n of its units
@@ -44,6 +45,10 @@ has_cut {W} work law = (λ n w. later work (work.left w - n) w, λ n w le. go (w
     go : (m n : ℕ) (w : W) → work.left w ≡ m + n → work.left (later work m w) ≡ n
     go zero n w e = omega arith
     go (suc m) n w e = let l = law w (omega arith) in go m n (work.after w) (omega arith)
+
+-- the tails of two lists that are the same
+tail_of : {X : Type 0} {x y : X} {xs ys : List X} → x ∷ xs ≡ y ∷ ys → xs ≡ ys
+tail_of {X} e = ap (drop 1) e
 
 -- the server of a unit, and the number of its job
 abbrev unit_server : Ran → ℕ
@@ -228,6 +233,43 @@ module _ {W : Type 0} (work : Meaning W) (cut : ℕ → W → W) (law : IsCut wo
         let v = after work setup (K ++ Run ∷ L) in
         ap (λ u. next work setup.backlog u (step_cut work cut e setup.backlog v x)) (same_world K all.1) ∙ beside_made work cut law e setup.backlog v x all.0
 
+    -- so it is of the first steps, however many
+    early_tail : (J M : List (Step W)) → J ++ M ≡ L → IsEarly work e (server M)
+    early_tail J M same = go J M (rw same before)
+      where
+        go : (J M : List (Step W)) → IsEarly work e (server (J ++ M)) → IsEarly work e (server M)
+        go [] M is = is
+        go (x ∷ J) M is =
+            go J M (early_before work e (server (J ++ M)) (server (x ∷ J ++ M)) (grown_next work setup.backlog (after work setup (J ++ M)) x e.server) is)
+
+    tail_world : (K J M : List (Step W)) → AllByRecursion (IsBeside e.server) K → K ++ Run ∷ L ≡ J ++ M
+        → after work setup (steps_cut work cut e setup M) ≡ cut_world (after work setup M)
+    tail_world K [] M all same = rw (← same) (same_world K all)
+    tail_world [] (x ∷ J) M all same = same_after M (early_tail J M (sym (tail_of same)))
+    tail_world (y ∷ K) (x ∷ J) M all same = tail_world K J M all.1 (tail_of same)
+
+    -- nor is the job shorter then than in hindsight, if it was accepted
+    abbrev HasUnits : List (Step W) → Type 0
+    HasUnits M = e.seq < length (server M).accepted → need work (server M) e.seq + e.units ≤ need work (server M) (e.seq + 1)
+
+    enough_tail : (K J M : List (Step W)) → AllByRecursion (IsBeside e.server) K → K ++ Run ∷ L ≡ J ++ M → HasUnits M
+    enough_tail K [] M all same = λ lt. let jobs = (unit_after work setup K L e.server e.seq unit all).jobs in rw (← same, jobs) enough
+    enough_tail [] (x ∷ J) M all same = λ lt. ((early_tail J M (sym (tail_of same))).early lt).enough
+    enough_tail (y ∷ K) (x ∷ J) M all same = enough_tail K J M all.1 (tail_of same)
+
+    -- no server is owed more in hindsight
+    less_owed : (M : List (Step W)) → HasUnits M → after work setup (steps_cut work cut e setup M) ≡ cut_world (after work setup M) → (t : ℕ)
+        → owed work (account (after work setup (steps_cut work cut e setup M)).accounts t) ≤ owed work (account (after work setup M).accounts t)
+    less_owed M enough same t =
+        let accounts = (after work setup M).accounts in
+        rw same (elim (cases_Bool (eqb t e.server)) [
+          | inl y ↦
+              let here : t ≡ e.server = grind (arith, nat_tests) in
+              let sum = sum_shorter work.left (cut e.units) e.units (law e.units) (server M).accepted e.seq enough in
+              rw (here, changed_get (shorter work cut law e) accounts e.server no_account refl) (omega arith)
+          | inr n ↦ rw (changed_elsewhere (shorter work cut law e) accounts e.server t no_account (λ q. let y : eqb t e.server ≡ true = grind (arith, nat_tests) in cc)) (omega arith)
+        ])
+
     -- in hindsight that unit is the last one
     told_last : reply_to work setup.backlog (cut_world w) Run ≡ told
     told_last =
@@ -314,6 +356,9 @@ module _ {W : Type 0} (work : Meaning W) where
           let last : need work a k + e.units ≡ a.got + 1 = omega arith in
           record {
             world = same_world work cut law e setup M gives last K all;
+            always = λ J L same. tail_world work cut law e setup M gives last K J L all same;
+            less = λ J L same. less_owed work cut law e setup M gives last L (enough_tail work cut law e setup M gives last K J L all same)
+                (tail_world work cut law e setup M gives last K J L all same);
             finished = done_after work cut law e setup M gives last K all;
             replies = told_all work cut law e setup M gives last K all
                 ∙ ap (λ xs. changed_at (λ _. reply.Ran (ran.Done (record { server = s; seq = k; result = get_or (map (λ v. whole work (cut e.units v)) xs) k 0 })))

@@ -9,7 +9,7 @@ use Rattle.cbs_steps.specs.Accounts.{Account, need, finished}
 use Rattle.cbs_steps.specs.Faces.{submit_refusal}
 use Rattle.cbs_steps.specs.History.{World, Setup, History, faces, runner, after, world_after, reply_to, reply_in}
 use Rattle.cbs_steps.specs.Laws.{account_in}
-use Rattle.cbs_steps.specs.Promises.{when}
+use Rattle.cbs_steps.specs.Promises.{when, owed}
 use Rattle.cbs_steps.specs.declared.reply.Ran.TheVariants as ran
 use Rattle.cbs_steps.specs.declared.reply.Reply.{Reply}
 use Rattle.cbs_steps.specs.declared.reply.Reply.TheVariants as reply
@@ -111,10 +111,15 @@ module _ {W : Type 0} where
   completion_cut work cut e a = record { server = e.server; seq = e.seq; result = get_or (map (λ w. whole work (cut e.units w)) a.accepted) e.seq 0 }
 
   -- Job k of server s ends early after N. In hindsight the steps lead to the same world, in which only the accepted job is
-  -- another, and in which it is finished. Each reply is as it was, except that of the Run which gave the job its last
+  -- another, and in which it is finished. The first steps of N do so, too, however many. After them no server is owed more
+  -- than it was, so no promised tick is later. Each reply is as it was, except that of the Run which gave the job its last
   -- unit: K were the steps after it
   pub record EndsEarly (work : Meaning W) (cut : ℕ → W → W) (N : History W) (K : List (Step W)) (s k : ℕ) : Type 0 where
     pub world : let e = ending work N s k in world_after work (hindsight work cut e N) ≡ world_cut cut e (world_after work N)
+    pub always : let e = ending work N s k in (J M : List (Step W)) → N.steps ≡ J ++ M
+        → world_after work (hindsight work cut e (when N M)) ≡ world_cut cut e (world_after work (when N M))
+    pub less : let e = ending work N s k in (J M : List (Step W)) → N.steps ≡ J ++ M → (t : ℕ)
+        → owed work (account_in work (hindsight work cut e (when N M)) t) ≤ owed work (account_in work (when N M) t)
     pub finished : let e = ending work N s k in k < finished work (account_in work (hindsight work cut e N) s)
     pub replies : let e = ending work N s k in
         replies work N.setup (hindsight work cut e N).steps

@@ -1,6 +1,6 @@
 //! Meters: how many ticks a unit took after its first tick.
 
-ghost use Rattle.std.specs.Prelude.{ℕ, ◌≡◌, ◌<◌, IsSome, MatchOption};
+ghost use Rattle.std.specs.Prelude.{ℕ, ◌≡◌, ◌<◌, MatchOption};
 ghost use Rattle.std.specs.Duration.{as_nanos};
 ghost use Rattle.cbs_host.specs.Meters.{NothingBeyond, IsMeasuredFrom, nanos_of, ticks_between};
 

@@ -1,4 +1,5 @@
 pub mod Feeds
+pub mod Lends
 pub mod Rounds
 -- what the clauses name of the libraries below
 pub use Rattle.cbs_clients.specs.Calls

@@ -1,9 +1,9 @@
 -- What a contract says about rounds, and about serving.
-use Rattle.std.specs.Prelude.{ℕ, zero, suc, false, ◌≡◌, ◌+◌, ◌≤◌, List, ◌++◌, drop, length, map, ◌<◌, [], ◌∷◌}
+use Rattle.std.specs.Prelude.{ℕ, zero, suc, false, ◌≡◌, ◌+◌, ◌≤◌, List, ◌++◌, length, map, ◌<◌, [], ◌∷◌}
 use Rattle.std.specs.List.{All, AllByRecursion}
 use mathlib.Core.List.{IsPrefix}
 use Rattle.cbs_rate.specs.Limits.{most_servers}
-use Rattle.cbs_job.specs.Work.{Meaning, whole}
+use Rattle.cbs_job.specs.Work.{Meaning}
 use Rattle.cbs_job.specs.declared.work.Work.{Ghosts}
 use Rattle.cbs_clients.specs.declared.error.HouseError.{HouseError}
 use Rattle.cbs_clients.specs.declared.error.HouseError.TheVariants.{OutOfMemory, ClockEnd, Stalled}
@@ -13,7 +13,7 @@ use Rattle.cbs_clients.specs.declared.house.House.{House}
 use Rattle.cbs_clients.specs.declared.message.Message.{Message}
 use Rattle.cbs_clients.specs.Clients.{server_of, sent_by, AreOpened}
 use Rattle.cbs_house.specs.Feeds.{client_of, IsDone, KeepsFeeds, SendsFeeds, all_jobs, all_unsent, servers_of}
-use Rattle.cbs_clients.specs.Houses.{core_of, rings_of, received, known, results_of, handed_of, early_of, Made, ServesBy}
+use Rattle.cbs_clients.specs.Houses.{core_of, rings_of, received, known, results_of, early_of, left_of, Made, ServesBy}
 use Rattle.cbs_core.specs.Held.{HoldsNoJob, IsAtEnd, IsClosed}
 use Rattle.cbs_host.specs.Meters.{NeverCharges}
 use Rattle.cbs_clients.specs.Meters.{IsRunPaid}
@@ -121,7 +121,7 @@ module _ {W A : Type 0} {g : Ghosts W} where
   -- in order, except the first ones, which were handed out
   pub record IsServed (work : Meaning W) (h : House W A g) (f : Feed W A g) : Type 0 where
     pub done : IsDone f
-    pub results : early_of h (server_of f.client) ≡ false → results_of h (server_of f.client) ≡ drop (handed_of h (server_of f.client)) (map (whole work) (all_jobs f))
+    pub results : early_of h (server_of f.client) ≡ false → results_of h (server_of f.client) ≡ left_of work h (server_of f.client) (all_jobs f)
 
   -- What an error of an unfinished round says of the house. ClockEnd says that the clock is at its end with a job
   -- unfinished. OutOfMemory says nothing of the house

@@ -26,9 +26,8 @@ impl<W: Work, A: Allocator> Drop for Feed<W, A> {
 
 impl<W: Work, A: Allocator> Feed<W, A> {
     ghost use Rattle.std.specs.Prelude.{◌≡◌, ◌+◌, ◌⊎◌, true, false, IsTrue, ◌↔◌, length, if◌then◌else◌};
-    ghost use Rattle.std.specs.Borrow.{Lends, sem};
-    ghost use Rattle.cbs_house.specs.contracts.feed.Feed.{the_row};
-    ghost use Rattle.cbs_clients.specs.contracts.client.Client.{the_row as client_row};
+    ghost use Rattle.std.specs.Borrow.{sem};
+    ghost use Rattle.cbs_house.specs.Lends.{lends_client};
     ghost use Rattle.cbs_clients.specs.Clients.{sent_by, HasNoSlot};
     ghost use Rattle.cbs_house.specs.Feeds.{client_of, unsent_jobs, has_ended, IsDone, KeepsFeed};
 
@@ -45,9 +44,8 @@ impl<W: Work, A: Allocator> Feed<W, A> {
 
     /// Returns the client, to be read or settled.
     pub fn client(&mut self) -> &mut Client<W, A>
-        ensures* writes_back { sem 𝓛 (Lends (the_row W.row A.row W.Work A.Allocator)
-            (client_row W.row A.row W.Work A.Allocator) self.entry result (λ c.
-            record self.old { client = c })) }
+        ensures* writes_back { sem 𝓛 (lends_client W.row A.row W.Work A.Allocator self.entry
+            result) }
         ensures value { result.now ≡ client_of self.old }
     {
         &mut self.client

@@ -3,7 +3,7 @@
 ghost use Rattle.std.specs.Prelude.{◌≡◌, length, map, IfOk, MatchResult};
 ghost use Rattle.std.specs.List.{All, range_with_len};
 ghost use Rattle.cbs_rate.specs.Refusals.{HandsBackByOrMemory};
-ghost use Rattle.cbs_steps.specs.Setups.{terms_of};
+ghost use Rattle.cbs_steps.specs.Setups.{setup_of};
 ghost use Rattle.cbs_clients.specs.Calls.{IsNewHouse};
 ghost use Rattle.cbs_house.specs.Feeds.{client_of, unsent_jobs, servers_of};
 ghost use Rattle.cbs_clients.specs.Opened.{open_refusal, IsUnused};
@@ -44,7 +44,7 @@ pub fn open_feeds<W: Work, A: Allocator + Copy>(
     requires modes { length modes ≡ length plan.rates }
     requires lists { length lists.items ≡ length plan.rates }
     ensures new { IfOk result (λ r. IsNewHouse W.meaning
-        (record { servers = terms_of modes plan.rates; backlog = backlog }) r.0) }
+        (setup_of modes plan.rates backlog) r.0) }
     ensures servers { IfOk result (λ r. servers_of r.1.items
         ≡ range_with_len 0 (length plan.rates)) }
     ensures unused { IfOk result (λ r. All (λ f. IsUnused ring (client_of f)) r.1.items) }

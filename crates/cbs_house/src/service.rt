@@ -21,8 +21,8 @@ use std::time::Clock;
 const TURNS: u64 = 10_000;
 
 /// Serves the feeds until each is done and all its jobs are finished. Then the results of each feed's server are those
-/// of all the feed's jobs, in order and each once. Only the first ones are missing, which were handed out. This holds
-/// whatever the threads did.
+/// of all the feed's jobs, in order and each once. Only the first ones are missing, which were handed out. They are
+/// whole results if no job of the server ended early. This holds whatever the threads did.
 ///
 /// Serving makes rounds of 10000 turns ([`serve_round`]). After each round it takes what stands in the rings, and
 /// drains. The gate does not see the polls of that part. With no feed, serving makes one round, and drains what the

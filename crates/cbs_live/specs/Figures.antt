@@ -63,6 +63,11 @@ pub record AreFiguresOf (f : Figures) (came : List ℕ) (p : Past) : Type 0 wher
   pub lateness : IsSpreadOf f.lateness p.latenesses
   pub remembered : Remembers came p.accepted
 
+-- Figures of what a server did have become figures of what it did since, too: `since` adds that to
+-- each past
+abbrev pub Notes : Figures → List ℕ → Figures → List ℕ → (Past → Past) → Type 0
+Notes old came new came' since = (p : Past) → AreFiguresOf old came p → AreFiguresOf new came' (since p)
+
 -- of a thousand ticks of the house's clock, those of the server's units and those charged for them
 abbrev pub share_of : Figures → ℕ
 share_of f = min ((f.units + f.charged) * 1000 / f.ticks) most

@@ -20,3 +20,8 @@ pub record IsToldAfter (t : Told) (mode : Mode) (r : Rate) (now : ℕ) (s : Stat
   pub period : t.period ≡ r.period
   pub budget : t.budget ≡ (state_after mode r now s).budget
   pub deadline : t.deadline ≡ (state_after mode r now s).deadline
+
+-- it holds of each state in which the unit may have begun, if this is shown after the unit
+abbrev pub OfEachStart : Told → (State → Type 0) → Type 0
+OfEachStart t holds =
+    (mode : Mode) → (r : Rate) → (now : ℕ) → (s : State) → IsToldAfter t mode r now s → holds s

@@ -1,7 +1,7 @@
 //! The figures of one server.
 
 ghost use Rattle.std.specs.Prelude.{◌≡◌, ℕ, List, length};
-ghost use Rattle.cbs_live.specs.Figures.{Past, no_past, past_with_jobs, past_with_unit, time_of, time_of_done, responses_with, share_of, AreFiguresOf};
+ghost use Rattle.cbs_live.specs.Figures.{Past, no_past, past_with_jobs, past_with_unit, time_of, time_of_done, responses_with, share_of, AreFiguresOf, Notes};
 ghost use Rattle.cbs_live.specs.Spreads.{IsSpreadOf};
 
 use crate::spread::Spread;
@@ -63,8 +63,7 @@ impl Figures {
     /// Notes that so many jobs are accepted in all. Those that were not noted before were accepted
     /// at this time.
     pub fn note_accepted(&mut self, came: &mut [u64], accepted: u64, time: u64)
-        ensures { (past : Past) → AreFiguresOf self.old came.old past
-            → AreFiguresOf self.new came.new (past_with_jobs accepted time past) }
+        ensures { Notes self.old came.old self.new came.new (past_with_jobs accepted time) }
     {
         let places = came.len() as u64;
         let first = self.accepted.max(accepted.saturating_sub(places));
@@ -77,8 +76,7 @@ impl Figures {
     /// Notes a unit that has ended. If it was the last of a job, and the job is one of the last
     /// that were accepted, as many as the ring has places, the response of the job is added.
     pub fn note_ended(&mut self, came: &[u64], unit: Ended)
-        ensures { (past : Past) → AreFiguresOf self.old came.now past
-            → AreFiguresOf self.new came.now (past_with_unit (length came.now) unit past) }
+        ensures { Notes self.old came.now self.new came.now (past_with_unit (length came.now) unit) }
     {
         let came = self.time_of_done(came, unit.done);
         add_response(&mut self.responses, came, unit.time);

@@ -1,10 +1,7 @@
 //! By how much a unit is late.
 
-ghost use Rattle.std.specs.Prelude.{◌≡◌, ◌+◌, ◌-◌, ℕ, min};
-ghost use Rattle.cbs_rate.specs.Rate.{Rate};
-ghost use Rattle.cbs_rules.specs.Rules.{State};
-ghost use Rattle.cbs_rules.specs.declared.mode.Mode.{Mode};
-ghost use Rattle.cbs_live.specs.Late.{IsToldAfter};
+ghost use Rattle.std.specs.Prelude.{◌≡◌, ◌+◌, ◌-◌, min};
+ghost use Rattle.cbs_live.specs.Late.{OfEachStart};
 ghost use Rattle.cbs_live.specs.Spreads.{most};
 
 /// What a house shows of a server right after it told one of the server's units, before anything
@@ -25,8 +22,7 @@ impl Told {
     /// Returns the deadline by which the unit was chosen. A server whose budget is whole was given
     /// it after the unit, and its deadline was postponed by one period then.
     pub fn chosen_by(self) -> u128
-        ensures { (mode : Mode) → (rate : Rate) → (now : ℕ) → (before : State)
-            → IsToldAfter self mode rate now before → result ≡ before.deadline }
+        ensures { OfEachStart self (λ before. result ≡ before.deadline) }
     {
         if self.budget == self.whole {
             self.deadline.saturating_sub(u128::from(self.period))
@@ -39,9 +35,8 @@ impl Told {
     /// it did not. The house's clock stood at `clock` after it told the unit, and the unit was
     /// charged so many ticks.
     pub fn lateness(self, clock: u64, charged: u64) -> u64
-        ensures { (mode : Mode) → (rate : Rate) → (now : ℕ) → (before : State)
-            → IsToldAfter self mode rate now before
-            → result ≡ min (clock + charged - before.deadline) most }
+        ensures { OfEachStart self (λ before.
+            result ≡ min (clock + charged - before.deadline) most) }
     {
         let end = u128::from(clock) + u128::from(charged);
         let late = end.saturating_sub(self.chosen_by());

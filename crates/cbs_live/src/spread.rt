@@ -1,7 +1,7 @@
 //! A summary of numbers.
 
-ghost use Rattle.std.specs.Prelude.{◌≡◌, ◌≤◌, ◌<◌, ◌+◌, ◌-◌, ◌*◌, ◌/◌, ◌^◌, ℕ, List, [], ◌∷◌, length, sum, min, IsTrue};
-ghost use Rattle.cbs_live.specs.Spreads.{most, is_of_power, IsSpreadOf, IsCounted, mean_of, AreAtMost};
+ghost use Rattle.std.specs.Prelude.{◌≡◌, ◌≤◌, ◌<◌, ◌+◌, ◌-◌, ◌*◌, ◌/◌, ◌^◌, ℕ, List, [], ◌∷◌, min, IsTrue};
+ghost use Rattle.cbs_live.specs.Spreads.{is_of_power, IsSpreadOf, IsCounted, mean_of, AreAtMost};
 
 /// A summary of the numbers that it was given, in a memory that stays the same. No number of it
 /// passes `u64::MAX`: it stops there.

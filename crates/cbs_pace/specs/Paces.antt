@@ -99,6 +99,10 @@ pacing_seen reading p = record p { watch = seen_at reading p.watch }
 abbrev pub time_to : ℕ → Pacing → ℕ
 time_to reading p = (seen_at reading p.watch).over - p.watch.over
 
+-- the time that a unit took by its own measure, and no more than there was since the last reading
+abbrev pub measured : ℕ → ℕ → Pacing → ℕ
+measured took reading p = min took (time_to reading p)
+
 -- what every pace keeps: a tick has a length, and no server carries as much as a tick
 pub record IsPacing (p : Pacing) : Type 0 where
   pub long : 0 < p.tick

@@ -1,7 +1,7 @@
 //! The theorem about all houses in real time.
 
 ghost use Rattle.std.specs.Prelude.{◌≡◌, ◌<◌, length};
-ghost use Rattle.cbs_steps.specs.Setups.{terms_of};
+ghost use Rattle.cbs_steps.specs.Setups.{setup_of};
 ghost use Rattle.cbs_pacer.specs.Timed.{KeepsShareOfTime, KeepsLatenessInTime};
 
 use cbs_job::Work;
@@ -30,10 +30,10 @@ pub fn all_in_time<W: Work>(
 )
     requires { length modes.now ≡ length plan.now.rates }
     ensures share { KeepsShareOfTime W.meaning
-        (record { servers = terms_of modes.now plan.now.rates; backlog = backlog })
+        (setup_of modes.now plan.now.rates backlog)
         rounding tick }
     ensures late { KeepsLatenessInTime W.meaning
-        (record { servers = terms_of modes.now plan.now.rates; backlog = backlog }) }
+        (setup_of modes.now plan.now.rates backlog) }
 {
     let _ = (rounding, tick.nanos());
     all_punctual::<W>(plan, modes, backlog);

@@ -1,6 +1,6 @@
 //! The list of ready servers, in the order of the choice.
 
-ghost use Rattle.std.specs.Prelude.{◌≡◌, ◌≢◌, ◌-◌, ◌<◌, ◌≤◌, ℕ, true, false, [], length, drop, take, Some, None, IfOk};
+ghost use Rattle.std.specs.Prelude.{◌≡◌, ◌≢◌, ◌-◌, ◌<◌, ◌≤◌, ℕ, true, false, [], length, Some, None, IfOk};
 ghost use Rattle.cbs_ready.specs.ReadyList.{listed, first_of, IsOrdered};
 ghost use Rattle.cbs_rate.specs.Limits.{most_servers};
 

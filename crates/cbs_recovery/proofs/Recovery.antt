@@ -1,7 +1,6 @@
 -- A delay is made up by what is not reserved: for each tick x the steps fall into earlier ones, which left the servers
 -- that are due by x with no more to ask for than their share, and a stretch of later ones, in which only they ran.
-use Rattle.std.proofs.Common.{◌≡◌, ℕ, zero, suc, ◌+◌, ◌-◌, ◌*◌, ◌≤◌, ◌<◌, true, false, ltb, leb, ◌||◌, ◌&&◌, List, [], ◌∷◌, ◌++◌, length, map, arith, refl, inl, inr, ap, sym, Option, Some, None, ◌∙◌, ◌⊎◌}
-use Rattle.std.specs.Prelude.{if◌then◌else◌}
+use Rattle.std.proofs.Common.{◌≡◌, ℕ, zero, suc, ◌+◌, ◌-◌, ◌*◌, ◌≤◌, ◌<◌, true, false, ltb, leb, ◌||◌, List, [], ◌∷◌, ◌++◌, length, map, arith, refl, inl, inr, ap, sym, Option, Some, None, ◌∙◌, ◌⊎◌}
 use Rattle.std.specs.List.{sum_by, AllByRecursion}
 use Rattle.std.proofs.lemmas.Bool.{cases_lt, cases_Bool}
 use Rattle.std.proofs.lemmas.Bool.Decides.{nat_tests}
@@ -17,80 +16,40 @@ use Rattle.cbs_rules.proofs.Paid.{charge_paid}
 use Rattle.cbs_rules.specs.declared.mode.Mode.{Mode}
 use Rattle.cbs_lists.specs.Lists.{changed_at}
 use Rattle.cbs_lists.proofs.Lists.{AllByRecursion-map, AllByRecursion-mapped, AllByRecursion-get}
-use Rattle.cbs_lists.proofs.Sums.{sum_map, sum_times, sum-mono, sum_changed, sum_changed-le, sum_changed_same, same_sum}
+use Rattle.cbs_lists.proofs.Sums.{sum_map, sum_times, sum-mono, sum_changed, sum_changed-le, sum_changed_same}
 use Rattle.cbs_steps.specs.Faces.{is_active, is_ready, submit_refusal, close_refusal}
 use Rattle.cbs_steps.specs.Accounts.{Account, face_of, no_account, new_account, account_with_job, account_with_unit, account_with_charge, account_with_replenishment, account_with_close, account_let_go}
-use Rattle.cbs_steps.specs.History.{World, Setup, History, account, faces, chosen, tick, ticks, start, runner, after_submit, after_run, after_closing, after_advance, after_charging, charge_refusal, let_go, next, after, world_after}
-use Rattle.cbs_steps.specs.OnTime.{demand_of, full_demand, share_until, IsAhead}
+use Rattle.cbs_steps.specs.History.{World, Setup, account, faces, chosen, tick, ticks, start, runner, after_submit, after_run, after_closing, after_advance, after_charging, charge_refusal, let_go, next, after}
+use Rattle.cbs_steps.specs.OnTime.{full_demand, IsAhead}
 use Rattle.cbs_steps.specs.Quiet.{IsAtRest, IsQuiet, IsQuietAdvance, AdvanceQuietly}
-use Rattle.cbs_steps.specs.Setups.{terms_of}
+use Rattle.cbs_steps.specs.Setups.{setup_of, history_of, terms_of}
 use Rattle.cbs_steps.specs.declared.error.CoreError.{CoreError}
 use Rattle.cbs_steps.specs.declared.step.Step.{Step}
 use Rattle.cbs_steps.specs.declared.step.Step.TheVariants.{Submit, Run, Advance, Close, Charge}
 use Rattle.cbs_steps.proofs.DemandLines.{asked_from}
 use Rattle.cbs_steps.proofs.DemandRules.{demand_ruled}
-use Rattle.cbs_steps.proofs.Demands.{demand-le, demand_busy, demand_before, job-less, fewer-le, tick-le, rest_line, tick_before, run_less, run_before, paid_less}
+use Rattle.cbs_steps.proofs.Demands.{demand-le, demand_busy, demand_before, paid_less}
 use Rattle.cbs_steps.proofs.Faces.{runnable}
 use Rattle.cbs_steps.proofs.Histories.{chosen_is_ready, charged_runs, charged_there, let_go_faces}
 use Rattle.cbs_steps.proofs.Lateness.{paced_after}
-use Rattle.cbs_steps.proofs.LawfulServers.{ready_begun, ready_budget}
-use Rattle.cbs_steps.proofs.OnTime.{IsAdmitted, reservation, given, rates_after, sound_after, sound_start}
-use Rattle.cbs_steps.proofs.OnTimeSteps.{IsSound, AllSound, all_ahead, chosen_least, quiet_let_go, quiet_more, runner_chosen, sound_at, sound_tick, sound_ticks, sound_let_go, sound_charged}
-use Rattle.cbs_steps.proofs.Paced.{asks}
-use Rattle.cbs_recovery.specs.Recovery.{charged_by, charged, held_by, held, MakesUp, KeepsRecovery, KeepsOneRecovery}
+use Rattle.cbs_steps.proofs.LawfulServers.{ready_budget}
+use Rattle.cbs_steps.proofs.OnTime.{IsAdmitted, reservation, given, rates_after, sound_after}
+use Rattle.cbs_steps.proofs.OnTimeSteps.{IsSound, AllSound, all_ahead, chosen_least, quiet_let_go, quiet_more, runner_chosen, sound_at, sound_tick, sound_let_go, sound_charged}
+use Rattle.cbs_steps.proofs.Paced.{asks, asks_let_go, asks_job, asks_tick, asks_rest, asks_before, asks_run, asks_run_before, AllLoose, all_loose}
+use Rattle.cbs_recovery.specs.Recovery.{charged_by, charged, held_by, held, KeepsRecovery, KeepsOneRecovery}
 
 module _ {W : Type 0} (work : Meaning W) (P now x : ℕ) (a : Account W) (ok : IsSound work P a) where
   abbrev r : Rate
   r = a.terms.reservation
 
-  -- what is let go asks for no more
-  asks_let_go : asks work P now x (account_let_go a) ≤ asks work P now x a
-  asks_let_go = fewer-le P r now x a.runs (is_active (face_of work a)) a.state
-
-  -- nor does a job
-  asks_job : (job : W) → asks work P now x (account_with_job work now job a) ≤ asks work P now x a
-  asks_job job = job-less P r now x (a.runs || is_active (face_of work (account_with_job work now job a))) (is_active (face_of work a)) a.runs a.terms.mode a.state
-      ok.divides ok.lawful.rate ok.lawful.state.capped
-
-  -- nor a tick
-  asks_tick : asks work P (now + 1) x (account_with_replenishment (now + 1) a) ≤ asks work P now x a
-  asks_tick = tick-le P r ok.divides now x (a.runs || is_active (face_of work a)) a.state ok.lawful.state
-
-  -- after a tick a server that was not ready and does not run is below its share
-  asks_rest : is_ready (face_of work a) ≡ false → a.runs ≡ false → IsAhead now (face_of work a)
-      → asks work P (now + 1) x (account_with_replenishment (now + 1) a) ≤ share_until P r (now + 1) x
-  asks_rest rest loose ahead =
-      let le : demand_of P r (now + 1) x (is_active (face_of work a)) (account_with_replenishment (now + 1) a).state ≤ share_until P r (now + 1) x =
-      rest_line P r ok.divides now x (is_active (face_of work a)) a.state ok.lawful.state rest ahead in
-      rw loose le
-
-  -- before its deadline it asks for nothing
-  asks_before : x < a.state.deadline → asks work P (now + 1) x (account_with_replenishment (now + 1) a) ≡ 0
-  asks_before h = tick_before P r ok.divides now x (a.runs || is_active (face_of work a)) a.state ok.lawful.state h
-
-  module _ (ready : is_ready (face_of work a) ≡ true) where
-    free : a.state.throttled ≡ false
-    free = (runnable (face_of work a) ready).free
-
-    -- a unit and a tick ask for a tick less, from the deadline on
-    asks_run : a.state.deadline ≤ x → asks work P (now + 1) x (account_with_replenishment (now + 1) (account_with_unit a)) + P ≤ asks work P now x a
-    asks_run far =
-        let all : asks work P now x a ≡ full_demand P r a.state x = demand_busy P r now x (a.runs || is_active (face_of work a)) a.state (grind (arith, nat_tests)) in
-        let less = run_less P r ok.divides ok.lawful.rate a.terms.mode now x true a.state ok.lawful.state free (ready_begun work a ready ok.lawful) far in
-        rw all less
-
-    -- and for nothing before
-    asks_run_before : x < a.state.deadline → asks work P (now + 1) x (account_with_replenishment (now + 1) (account_with_unit a)) ≡ 0
-    asks_run_before near = run_before P r ok.divides ok.lawful.rate a.terms.mode now x true a.state ok.lawful.state free (ready_begun work a ready ok.lawful) near
-
-    -- a ready server asks for its budget at its deadline
-    asks_budget : x ≡ a.state.deadline → 0 < a.state.budget → P ≤ asks work P now x a
-    asks_budget at some =
-        let all : asks work P now x a ≡ full_demand P r a.state x = demand_busy P r now x (a.runs || is_active (face_of work a)) a.state (grind (arith, nat_tests)) in
-        let f = free in
-        let e : full_demand P r a.state x ≡ a.state.budget * P + (x - a.state.deadline) * share P r = rw f (asked_from P (share P r) a.state.budget a.state.deadline x (omega arith)) in
-        let m = mul-le 1 P a.state.budget P some (omega arith) in
-        omega arith
+  -- a ready server asks for its budget at its deadline
+  asks_budget : is_ready (face_of work a) ≡ true → x ≡ a.state.deadline → 0 < a.state.budget → P ≤ asks work P now x a
+  asks_budget ready at some =
+      let all : asks work P now x a ≡ full_demand P r a.state x = demand_busy P r now x (a.runs || is_active (face_of work a)) a.state (grind (arith, nat_tests)) in
+      let f : a.state.throttled ≡ false = (runnable (face_of work a) ready).free in
+      let e : full_demand P r a.state x ≡ a.state.budget * P + (x - a.state.deadline) * share P r = rw f (asked_from P (share P r) a.state.budget a.state.deadline x (omega arith)) in
+      let m = mul-le 1 P a.state.budget P some (omega arith) in
+      omega arith
 
   module _ (n : ℕ) (runs : a.runs ≡ true) where
     -- a charge of a server that is due later after it asks for no more
@@ -119,17 +78,6 @@ module _ {W : Type 0} (work : Meaning W) (P x : ℕ) where
   -- each throttled server waits
   abbrev AllAhead : World W → Type 0
   AllAhead w = AllByRecursion (λ a. IsAhead w.now (face_of work a)) w.accounts
-
-  -- nobody runs
-  abbrev AllLoose : World W → Type 0
-  AllLoose w = AllByRecursion (λ a. a.runs ≡ false) w.accounts
-
-  all_loose : (w : World W) → AllLoose (let_go w)
-  all_loose w = go w.accounts
-    where
-      go : (accounts : List (Account W)) → AllByRecursion (λ a. a.runs ≡ false) (map account_let_go accounts)
-      go [] = tt
-      go (a ∷ accounts) = (refl, go accounts)
 
   ahead_let_go : (w : World W) → AllAhead w → AllAhead (let_go w)
   ahead_let_go w ahead = AllByRecursion-map (λ a. IsAhead w.now (face_of work a)) (λ a. IsAhead w.now (face_of work a)) account_let_go w.accounts ahead (λ a h. h)
@@ -306,7 +254,7 @@ module _ {W : Type 0} (work : Meaning W) (setup : Setup) (ok : IsAdmitted (given
       let fewer = total_let_go work P x w (sound N) in
       elim (cases_lt x (account v.accounts s).state.deadline) [
         | inl near ↦
-            let b = below_run work P x v s chose fine (ahead_let_go work P x w ahead) (all_loose work P x w) near in
+            let b = below_run work P x v s chose fine (ahead_let_go work P x w ahead) (all_loose w) near in
             let u : shares work P x v ≡ U = shares_let_go work P x w ∙ all_shares N in
             begins (Run ∷ N) (rw e (rw u at b))
         | inr far ↦
@@ -319,7 +267,7 @@ module _ {W : Type 0} (work : Meaning W) (setup : Setup) (ok : IsAdmitted (given
   advance_next N (suc n) ahead h q e =
       let w = at N in
       let v = let_go w in
-      let b = below_rests work P x n v (sound_let_go work P w (sound N)) (ahead_let_go work P x w ahead) (all_loose work P x w) (quiet_let_go work P w (suc n) q) in
+      let b = below_rests work P x n v (sound_let_go work P w (sound N)) (ahead_let_go work P x w ahead) (all_loose w) (quiet_let_go work P w (suc n) q) in
       let u : shares work P x v ≡ U = shares_let_go work P x w ∙ all_shares N in
       let passed = now_ticks work P x (suc n) v in
       let line : (x - (ticks (suc n) v).now) * U ≡ (x - (v.now + suc n)) * shares work P x v =
@@ -556,14 +504,14 @@ module _ {W : Type 0} (work : Meaning W) where
 
   -- so it is of the servers of a plan
   pub plan_recovery : (plan : Planned) (modes : List Mode) (backlog : ℕ) → IsPlan plan → length modes ≡ length plan.rates → (steps : List (Step W))
-      → KeepsRecovery work plan.rates (record { setup = record { servers = terms_of modes plan.rates; backlog = backlog }; steps = steps })
+      → KeepsRecovery work plan.rates (history_of modes plan.rates backlog steps)
   plan_recovery plan modes backlog ok same steps =
-      let setup : Setup = record { servers = terms_of modes plan.rates; backlog = backlog } in
+      let setup : Setup = setup_of modes plan.rates backlog in
       let e = given_rates modes plan.rates same in
       rw e at (recovery_kept work setup (rw e record { lawful = ok.lawful; at_most_one = ok.at_most_one }) steps)
 
   pub plan_one : (plan : Planned) (modes : List Mode) (backlog : ℕ) → IsPlan plan → length modes ≡ length plan.rates
-      → KeepsOneRecovery work plan.rates (record { servers = terms_of modes plan.rates; backlog = backlog })
+      → KeepsOneRecovery work plan.rates (setup_of modes plan.rates backlog)
   plan_one plan modes backlog ok same =
-      one_recovered work (record { servers = terms_of modes plan.rates; backlog = backlog }) plan.rates (plan_recovery plan modes backlog ok same)
+      one_recovered work (setup_of modes plan.rates backlog) plan.rates (plan_recovery plan modes backlog ok same)
       (all_periods_some plan.rates ok.lawful)

@@ -1,6 +1,6 @@
 //! The results of one server.
 
-ghost use Rattle.std.specs.Prelude.{◌≡◌, ◌<◌, IfOk, OnOk, OnErr, IsOk, MatchResult, Some, None, true, false};
+ghost use Rattle.std.specs.Prelude.{◌≡◌, ◌<◌, IfOk, OnOk, OnErr, IsOk, Some, None, true, false};
 ghost use Rattle.cbs_results.specs.Collected.{SameShelf, Announces, TakesResult, TakesEarly, HandsOut, IsWaiting, IsComplete, shelf_refusal, no_shelf};
 
 use crate::error::CollectError;

@@ -71,11 +71,11 @@ module _ {W : Type 0} (work : Meaning W) (P now x : ℕ) (a : Account W) (ok : I
   abbrev r : Rate
   r = a.terms.reservation
 
-  asks_let_go : asks work P now x (account_let_go a) ≤ asks work P now x a
+  pub asks_let_go : asks work P now x (account_let_go a) ≤ asks work P now x a
   asks_let_go = fewer-le P r now x a.runs (is_active (face_of work a)) a.state
 
   -- a job asks for no more
-  asks_job : (job : W) → asks work P now x (account_with_job work now job a) ≤ asks work P now x a
+  pub asks_job : (job : W) → asks work P now x (account_with_job work now job a) ≤ asks work P now x a
   asks_job job = job-less P r now x (a.runs || is_active (face_of work (account_with_job work now job a))) (is_active (face_of work a)) a.runs a.terms.mode a.state
       ok.divides ok.lawful.rate ok.lawful.state.capped
 
@@ -88,7 +88,7 @@ module _ {W : Type 0} (work : Meaning W) (P now x : ℕ) (a : Account W) (ok : I
       ])
 
   -- a tick asks for no more
-  asks_tick : asks work P (now + 1) x (account_with_replenishment (now + 1) a) ≤ asks work P now x a
+  pub asks_tick : asks work P (now + 1) x (account_with_replenishment (now + 1) a) ≤ asks work P now x a
   asks_tick = tick-le P r ok.divides now x (a.runs || is_active (face_of work a)) a.state ok.lawful.state
 
   -- and holds up as much
@@ -96,7 +96,7 @@ module _ {W : Type 0} (work : Meaning W) (P now x : ℕ) (a : Account W) (ok : I
   blocks_tick = rw (replenished_until r (now + 1) a.state) refl
 
   -- if it was not ready and does not run, it is below its share
-  asks_rest : is_ready (face_of work a) ≡ false → a.runs ≡ false → IsAhead now (face_of work a)
+  pub asks_rest : is_ready (face_of work a) ≡ false → a.runs ≡ false → IsAhead now (face_of work a)
       → asks work P (now + 1) x (account_with_replenishment (now + 1) a) ≤ share_until P r (now + 1) x
   asks_rest rest loose ahead =
       let le : demand_of P r (now + 1) x (is_active (face_of work a)) (after_replenishment r (now + 1) a.state) ≤ share_until P r (now + 1) x =
@@ -104,7 +104,7 @@ module _ {W : Type 0} (work : Meaning W) (P now x : ℕ) (a : Account W) (ok : I
       rw loose le
 
   -- before the deadline nothing is asked for
-  asks_before : x < a.state.deadline → asks work P (now + 1) x (account_with_replenishment (now + 1) a) ≡ 0
+  pub asks_before : x < a.state.deadline → asks work P (now + 1) x (account_with_replenishment (now + 1) a) ≡ 0
   asks_before h = tick_before P r ok.divides now x (a.runs || is_active (face_of work a)) a.state ok.lawful.state h
 
   module _ (ready : is_ready (face_of work a) ≡ true) where
@@ -112,14 +112,14 @@ module _ {W : Type 0} (work : Meaning W) (P now x : ℕ) (a : Account W) (ok : I
     free = (runnable (face_of work a) ready).free
 
     -- a unit and a tick ask for a tick less, from the deadline on
-    asks_run : a.state.deadline ≤ x → asks work P (now + 1) x (account_with_replenishment (now + 1) (account_with_unit a)) + P ≤ asks work P now x a
+    pub asks_run : a.state.deadline ≤ x → asks work P (now + 1) x (account_with_replenishment (now + 1) (account_with_unit a)) + P ≤ asks work P now x a
     asks_run far =
         let all : asks work P now x a ≡ full_demand P r a.state x = demand_busy P r now x (a.runs || is_active (face_of work a)) a.state (grind (arith, nat_tests)) in
         let less = run_less P r ok.divides ok.lawful.rate a.terms.mode now x true a.state ok.lawful.state free (ready_begun work a ready ok.lawful) far in
         rw all less
 
     -- and for nothing before
-    asks_run_before : x < a.state.deadline → asks work P (now + 1) x (account_with_replenishment (now + 1) (account_with_unit a)) ≡ 0
+    pub asks_run_before : x < a.state.deadline → asks work P (now + 1) x (account_with_replenishment (now + 1) (account_with_unit a)) ≡ 0
     asks_run_before near = run_before P r ok.divides ok.lawful.rate a.terms.mode now x true a.state ok.lawful.state free (ready_begun work a ready ok.lawful) near
 
     -- from the deadline on it held up nobody
@@ -157,6 +157,19 @@ module _ {W : Type 0} (work : Meaning W) (P now x : ℕ) (a : Account W) (ok : I
             let l = paid_less P r ok.divides n a.state c.state x p ge in
             inl (omega arith, omega arith)
       ]
+
+module _ {W : Type 0} where
+  -- nobody runs
+  abbrev pub AllLoose : World W → Type 0
+  AllLoose w = AllByRecursion (λ a. a.runs ≡ false) w.accounts
+
+  -- so it is once all are let go
+  pub all_loose : (w : World W) → AllLoose (let_go w)
+  all_loose w = go w.accounts
+    where
+      go : (accounts : List (Account W)) → AllByRecursion (λ a. a.runs ≡ false) (map account_let_go accounts)
+      go [] = tt
+      go (a ∷ accounts) = (refl, go accounts)
 
 module _ {W : Type 0} (work : Meaning W) (P : ℕ) where
   -- a submit keeps it
@@ -223,17 +236,6 @@ module _ {W : Type 0} (work : Meaning W) (P : ℕ) where
   unfolding ticks
   paced_ticks zero w ok on = on
   paced_ticks (suc n) w ok on = paced_ticks n (tick w) (sound_tick work P w ok) (paced_tick n w ok on)
-
-  -- nobody runs
-  abbrev AllLoose : World W → Type 0
-  AllLoose w = AllByRecursion (λ a. a.runs ≡ false) w.accounts
-
-  all_loose : (w : World W) → AllLoose (let_go w)
-  all_loose w = go w.accounts
-    where
-      go : (accounts : List (Account W)) → AllByRecursion (λ a. a.runs ≡ false) (map account_let_go accounts)
-      go [] = tt
-      go (a ∷ accounts) = (refl, go accounts)
 
   loose_tick : (w : World W) → AllLoose w → AllLoose (tick w)
   loose_tick w loose = AllByRecursion-map (λ a. a.runs ≡ false) (λ a. a.runs ≡ false) (account_with_replenishment (w.now + 1)) w.accounts loose (λ a h. h)

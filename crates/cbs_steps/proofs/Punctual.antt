@@ -8,7 +8,7 @@ use Rattle.cbs_rate.specs.Plan.{Planned, IsPlan}
 use Rattle.cbs_rate.specs.Rate.{Rate}
 use Rattle.cbs_rules.specs.declared.mode.Mode.{Mode}
 use Rattle.cbs_steps.specs.Accounts.{new_account}
-use Rattle.cbs_steps.specs.Setups.{terms_of}
+use Rattle.cbs_steps.specs.Setups.{history_of, terms_of}
 use Rattle.cbs_steps.proofs.Dues.{due_kept, charged_due_kept, charged_due_end_kept}
 use Rattle.cbs_steps.proofs.Ends.{charged_end_kept}
 use Rattle.cbs_steps.proofs.HardTasks.{hard_kept}
@@ -56,7 +56,7 @@ module _ {W : Type 0} (work : Meaning W) where
 
   -- so every list of steps of the servers of a plan is punctual
   pub plan_punctual : (plan : Planned) (modes : List Mode) (backlog : ℕ) → IsPlan plan → length modes ≡ length plan.rates → (steps : List (Step W))
-      → IsPunctual work (record { setup = record { servers = terms_of modes plan.rates; backlog = backlog }; steps = steps })
+      → IsPunctual work (history_of modes plan.rates backlog steps)
   plan_punctual plan modes backlog ok same steps =
-      punctual (record { setup = record { servers = terms_of modes plan.rates; backlog = backlog }; steps = steps })
+      punctual (history_of modes plan.rates backlog steps)
       (rw (given_rates modes plan.rates same) record { lawful = ok.lawful; at_most_one = ok.at_most_one })

@@ -2,7 +2,7 @@
 
 ghost use Rattle.std.specs.Prelude.{◌≡◌, List, length};
 ghost use Rattle.cbs_steps.specs.Punctual.{IsPunctual};
-ghost use Rattle.cbs_steps.specs.Setups.{terms_of};
+ghost use Rattle.cbs_steps.specs.Setups.{history_of};
 
 use crate::step::Step;
 use cbs_job::Work;
@@ -18,10 +18,7 @@ use cbs_rules::Modes;
 pub fn all_punctual<W: Work>(plan: &Plan, modes: &Modes, backlog: u64)
     requires { length modes.now ≡ length plan.now.rates }
     ensures { (steps : List (Step W)) → IsPunctual W.meaning
-        (record {
-          setup = record { servers = terms_of modes.now plan.now.rates; backlog = backlog };
-          steps = steps;
-        }) }
+        (history_of modes.now plan.now.rates backlog steps) }
 {
     // Reading the plan gives the proof what every plan keeps.
     let _ = plan.len();

@@ -1,6 +1,6 @@
 //! The table of a document in which a fault stands.
 
-ghost use Rattle.std.specs.Prelude.{◌≡◌, ℕ, map, option_map, slice_get, IfOk, IfSome, string_bytes};
+ghost use Rattle.std.specs.Prelude.{◌≡◌, ℕ, option_map, slice_get, IfOk, IfSome, string_bytes};
 ghost use Rattle.toml.specs.View.{view, table_view};
 ghost use Rattle.cbsrun_toml_tables.specs.declared.fault.Place.TheVariants.{Server};
 ghost use Rattle.cbsrun_faults.specs.Documents.{entries_at, name_of};

@@ -5,7 +5,7 @@ use Rattle.std.specs.Prelude.{◌++◌, length, drop, get_or, map, Option, Some,
 use Rattle.cbs_steps.specs.declared.reply.Ran.{Ran}
 use Rattle.cbs_steps.specs.declared.reply.Ran.TheVariants as ran
 use Rattle.cbs_steps.specs.declared.view.ServerView.{ServerView}
-use Rattle.cbsrun_events.specs.Events.{begun, ticks_of_run}
+use Rattle.cbsrun_events.specs.Events.{begun}
 use Rattle.cbsrun_events.specs.declared.seen.Event.{Event}
 use Rattle.cbsrun_events.specs.declared.seen.Event.TheVariants as event
 use Rattle.cbsrun_events.specs.declared.seen.Seen.{Seen}

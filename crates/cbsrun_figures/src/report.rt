@@ -1,6 +1,6 @@
 //! The figures of all servers.
 
-ghost use Rattle.std.specs.Prelude.{◌≡◌, ℕ, ◌+◌, List, [], IfOk, OnOk, length, map};
+ghost use Rattle.std.specs.Prelude.{◌≡◌, ℕ, ◌+◌, List, [], IfOk, OnOk, map};
 ghost use Rattle.cbsrun_events.specs.declared.seen.Seen.{Seen};
 ghost use Rattle.cbsrun_figures.specs.Figures.{told, total, AreAllFigures};
 ghost use Rattle.cbsrun_figures.specs.Tallies.{AddsStep, HasSeen, Reported, budgets, passed, ticks_idle};

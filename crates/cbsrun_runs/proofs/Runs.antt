@@ -12,7 +12,7 @@ use Rattle.cbsrun_simulate.proofs.Loop.{shown_before, shown_on}
 use Rattle.cbsrun_simulate.specs.Shown.{shown}
 use Rattle.cbsrun_simulate.specs.declared.load_job.LoadJob.{LoadJob}
 use Rattle.cbsrun_simulate.specs.declared.release.Release.{Release}
-use Rattle.cbs_steps.specs.Setups.{terms_of}
+use Rattle.cbs_steps.specs.Setups.{history_of}
 use Rattle.cbsrun_figures.specs.Figures.{AreAllFigures}
 use Rattle.cbsrun_figures.specs.declared.figures.Figures.{Figures}
 use Rattle.cbsrun_events.specs.declared.seen.Seen.{Seen}
@@ -22,7 +22,7 @@ use Rattle.cbsrun_runs.specs.Runs.{SawSome}
 -- a simulation of these servers and releases
 abbrev pub simulation : List Mode → Planned → ℕ → List Release → Simulation LoadJob
 simulation modes plan backlog coming = record {
-  history = record { setup = record { servers = terms_of modes plan.rates; backlog = backlog }; steps = [] };
+  history = history_of modes plan.rates backlog [];
   coming = coming;
   owing = None;
 }

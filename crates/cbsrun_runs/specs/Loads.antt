@@ -14,7 +14,7 @@ use Rattle.cbsrun_simulate.specs.Drawing.{released_by_all}
 use Rattle.cbsrun_simulate.specs.Merging.{merged}
 use Rattle.cbsrun_simulate.specs.Shown.{shown}
 use Rattle.cbsrun_simulate.specs.declared.terms.SourceTerms.{SourceTerms}
-use Rattle.cbs_steps.specs.Setups.{terms_of}
+use Rattle.cbs_steps.specs.Setups.{history_of}
 use Rattle.cbsrun_events.specs.declared.seen.Seen.{Seen}
 use Rattle.cbsrun_runs.specs.Runs.{Shown}
 use Rattle.cbs_guarantee.specs.Parts.{rate_at}
@@ -59,7 +59,7 @@ ticks_waiting until sim s = count_ticks (waits_at sim (moves_of loading job_of u
 -- the start of a load: no step is made yet, and all releases of its sources are still to come
 abbrev pub start_of : LoadFile → Simulation LoadJob
 start_of f = record {
-  history = record { setup = record { servers = terms_of f.modes f.plan.rates; backlog = f.backlog }; steps = [] };
+  history = history_of f.modes f.plan.rates f.backlog [];
   coming = merged (released_by_all 0 f.sources f.until f.seed);
   owing = None;
 }

@@ -10,7 +10,7 @@ use Rattle.cbs_rules.specs.Setups.{ModedPlan}
 use Rattle.cbs_steps.specs.Continuations.{◌⊕⊕◌}
 use Rattle.cbs_steps.specs.History.{World, History, ◌⊕◌, faces, world_after, reply_in}
 use Rattle.cbs_steps.specs.Laws.{account_in, completions_of, replies_after, Completes, NoneAfterClose}
-use Rattle.cbs_steps.specs.Setups.{terms_of}
+use Rattle.cbs_steps.specs.Setups.{history_of}
 use Rattle.cbs_steps.specs.declared.reply.Reply.{Reply}
 use Rattle.cbs_steps.specs.declared.step.Step.{Step}
 use Rattle.cbs_steps.specs.declared.step.Step.TheVariants as step
@@ -90,7 +90,7 @@ AllComplete core xs = (M : History FileJob) → Agrees of_files core M → (s : 
 
 -- servers with this backlog, before the first step
 abbrev pub start_with : ModedPlan → ℕ → History FileJob
-start_with s backlog = record { setup = record { servers = terms_of s.modes s.plan.rates; backlog = backlog }; steps = [] }
+start_with s backlog = history_of s.modes s.plan.rates backlog []
 
 -- the clock after steps
 abbrev pub clock_after : History FileJob → List (Step FileJob) → ℕ

@@ -12,7 +12,7 @@ use Rattle.cbs_steps.specs.Promises.{promised}
 use Rattle.cbs_steps.specs.declared.reply.Ran.{Ran}
 use Rattle.cbs_steps.specs.declared.reply.Reply.TheVariants as reply
 use Rattle.cbs_steps.specs.declared.step.Step.TheVariants as step
-use Rattle.cbsrun_simulate.specs.Moves.{Move, submit, run, charge, idle_span, move_on, ran_in, owing_for, Simulation, next_of, coming_after, owing_after, after_move}
+use Rattle.cbsrun_simulate.specs.Moves.{Move, submit, run, charge, idle_span, move_on, ran_in, owing_for, Simulation, next_of, owing_after, after_move}
 use Rattle.cbsrun_simulate.specs.Shown.{arrival_of, seen_of}
 use Rattle.cbsrun_events.specs.Steps.{seen_at}
 use Rattle.cbsrun_events.specs.declared.seen.Seen.{Seen}

@@ -5,7 +5,7 @@ use Rattle.cbs_core.specs.Held.{CoreHeld}
 use Rattle.cbs_rate.specs.Plan.{Planned}
 use Rattle.cbs_rules.specs.declared.mode.Mode.{Mode}
 use Rattle.cbs_steps.specs.History.{History}
-use Rattle.cbs_steps.specs.Setups.{terms_of}
+use Rattle.cbs_steps.specs.Setups.{history_of}
 use Rattle.cbsrun_events.specs.declared.seen.Seen.{Seen}
 use Rattle.cbsrun_simulate.specs.Loading.{loading, job_of}
 use Rattle.cbsrun_simulate.specs.Moves.{Move, Simulation, idle_span, move_on, owing_after}
@@ -20,7 +20,7 @@ begins M coming = record { history = M; coming = coming; owing = None }
 
 -- the same before the first step of servers of this plan, with these modes and this backlog
 abbrev pub alone : Planned → List Mode → ℕ → List Release → Simulation LoadJob
-alone plan modes backlog coming = begins (record { setup = record { servers = terms_of modes plan.rates; backlog = backlog }; steps = [] }) coming
+alone plan modes backlog coming = begins (history_of modes plan.rates backlog []) coming
 
 -- it holds of the simulation that is begun after every history which the core agrees with
 abbrev pub Begun : CoreHeld LoadJob → List Release → (Simulation LoadJob → Type 0) → Type 0

@@ -9,7 +9,7 @@ use Rattle.cbsrun_loads.specs.Loads.{LoadFile, IsLoad, IsSource}
 use Rattle.cbs_rate.specs.Plan.{IsPlan}
 use Rattle.cbs_rate.specs.Rate.{Rate}
 use Rattle.cbs_steps.specs.History.{Setup}
-use Rattle.cbs_steps.specs.Setups.{terms_of}
+use Rattle.cbs_steps.specs.Setups.{setup_of, terms_of}
 use Rattle.cbs_steps.proofs.Punctual.{plan_punctual}
 use Rattle.cbs_guarantee.specs.Parts.{rate_at}
 use Rattle.cbs_guarantee.specs.Sources.{stream_of, streams_of, ticks_of, IsOneAtATime, IsPromised}
@@ -75,7 +75,7 @@ module _ (f : LoadFile) (load : IsLoad f) (plan : IsPlan f.plan) (s within : ℕ
   released = tick_at s f.until (own_releases s releases)
 
   abbrev setup : Setup
-  setup = record { servers = terms_of f.modes f.plan.rates; backlog = f.backlog }
+  setup = setup_of f.modes f.plan.rates f.backlog
 
   abbrev sim : Simulation LoadJob
   sim = record { history = record { setup = setup; steps = [] }; coming = releases; owing = None }

@@ -16,7 +16,7 @@ use Rattle.cbs_rules.specs.declared.mode.Mode.{Mode}
 use Rattle.cbs_steps.specs.Accounts.{Account, new_account, no_account}
 use Rattle.cbs_steps.specs.Charged.{others_charges}
 use Rattle.cbs_steps.specs.History.{World, Setup, account}
-use Rattle.cbs_steps.specs.Setups.{terms_of}
+use Rattle.cbs_steps.specs.Setups.{setup_of, terms_of}
 use Rattle.cbs_steps.proofs.Punctual.{plan_punctual}
 use Rattle.cbs_guarantee.specs.Parts.{rate_at}
 use Rattle.cbs_guarantee.specs.Sources.{stream_of, streams_of, NoneOverruns, IsPromised}
@@ -142,7 +142,7 @@ module _ (f : LoadFile) (load : IsLoad f) (plan : IsPlan f.plan) (s within : ℕ
   of q = get_or (map (λ (r : Release). place r.source) (own_releases s releases)) q 0
 
   abbrev setup : Setup
-  setup = record { servers = terms_of f.modes f.plan.rates; backlog = f.backlog }
+  setup = setup_of f.modes f.plan.rates f.backlog
 
   abbrev pub sim : Simulation LoadJob
   sim = record { history = record { setup = setup; steps = [] }; coming = releases; owing = None }

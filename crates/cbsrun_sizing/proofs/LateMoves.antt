@@ -14,7 +14,7 @@ use Rattle.cbsrun_simulate.proofs.MoveSteps.{IsGoing}
 use Rattle.cbsrun_simulate.proofs.Simulations.{moves_are, well_next}
 use Rattle.cbs_steps.specs.History.{Setup, after, world_after}
 use Rattle.cbs_steps.specs.Quiet.{AdvanceQuietly}
-use Rattle.cbs_steps.specs.Setups.{terms_of}
+use Rattle.cbs_steps.specs.Setups.{setup_of, terms_of}
 use Rattle.cbsrun_sizing.specs.Lateness.{greatest_delay, IsChargedWithin, AreLateByLess}
 use Rattle.cbsrun_sizing.specs.ServerLoads.{most_charged}
 use Rattle.cbsrun_sizing.proofs.KeptLoads.{overruns_within}
@@ -22,7 +22,7 @@ use Rattle.cbsrun_sizing.proofs.LateServers.{bounded}
 
 module _ (f : LoadFile) (load : IsLoad f) (plan : IsPlan f.plan) where
   abbrev setup : Setup
-  setup = record { servers = terms_of f.modes f.plan.rates; backlog = f.backlog }
+  setup = setup_of f.modes f.plan.rates f.backlog
 
   -- before each move, ready servers are late by less than the bound
   abbrev pub IsEarly : Simulation LoadJob → Move → Type 0

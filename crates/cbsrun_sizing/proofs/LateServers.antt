@@ -13,10 +13,9 @@ use Rattle.cbsrun_simulate.specs.Loading.{loading}
 use Rattle.cbsrun_simulate.specs.declared.load_job.LoadJob.{LoadJob}
 use Rattle.cbs_steps.specs.Accounts.{Account, new_account, no_account}
 use Rattle.cbs_steps.specs.History.{account, world_after}
-use Rattle.cbs_steps.specs.Setups.{terms_of}
+use Rattle.cbs_steps.specs.Setups.{terms_of, history_of}
 use Rattle.cbs_steps.proofs.OnTime.{reservation, rates_after}
 use Rattle.cbs_steps.proofs.Punctual.{plan_punctual}
-use Rattle.cbs_guarantee.specs.Guarantees.{history_of}
 use Rattle.cbsrun_sizing.specs.Lateness.{greatest_delay, BoundsLateness}
 use Rattle.cbsrun_sizing.specs.ServerLoads.{most_charged, delay_of}
 

@@ -10,7 +10,7 @@ use Rattle.cbsrun_simulate.specs.Merging.{merged}
 use Rattle.cbsrun_simulate.specs.MoveLaws.{AllMoves}
 use Rattle.cbsrun_simulate.specs.Moves.{Simulation, moves_of}
 use Rattle.cbsrun_simulate.specs.declared.load_job.LoadJob.{LoadJob}
-use Rattle.cbs_steps.specs.Setups.{terms_of}
+use Rattle.cbs_steps.specs.Setups.{history_of}
 use Rattle.cbsrun_sizing.specs.Lateness.{IsKeptMove}
 use Rattle.cbsrun_sizing.specs.ServerLoads.{sources_of, delay_from_release}
 use Rattle.cbsrun_sizing.proofs.AloneLoads.{alone_load_kept}
@@ -24,7 +24,7 @@ released_at f s = tick_at s f.until (own_releases s (merged (released_by_all 0 f
 pub promise_kept : (f : LoadFile) → IsLoad f → IsPlan f.plan → (s within : ℕ) → s < length f.plan.rates
     → IsPromised (rate_at f.plan.rates s) (sources_of s f.sources) (delay_from_release f s) f.backlog within
     → (let sim : Simulation LoadJob = record {
-      history = record { setup = record { servers = terms_of f.modes f.plan.rates; backlog = f.backlog }; steps = [] };
+      history = history_of f.modes f.plan.rates f.backlog [];
       coming = merged (released_by_all 0 f.sources f.until f.seed);
       owing = None;
     } in

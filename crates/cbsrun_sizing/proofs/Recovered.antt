@@ -1,6 +1,6 @@
 -- What one unit overran is made up within the time in which as many ticks are free.
-use Rattle.std.proofs.Common.{◌≡◌, ℕ, ◌+◌, ◌-◌, ◌*◌, ◌/◌, ◌%◌, ◌≤◌, ◌<◌, true, false, eqb, List, [], ◌∷◌, ◌++◌, length, arith, refl, inl, inr}
-use Rattle.std.specs.Prelude.{if◌then◌else◌, min, Some, None, IfSome}
+use Rattle.std.proofs.Common.{◌≡◌, ℕ, ◌+◌, ◌-◌, ◌*◌, ◌≤◌, ◌<◌, List, ◌∷◌, ◌++◌, length, arith, refl, inl, inr}
+use Rattle.std.specs.Prelude.{IfSome}
 use Rattle.std.specs.Int.{div_ceil}
 use Rattle.std.proofs.lemmas.Bool.{cases_lt}
 use Rattle.std.proofs.lemmas.Bool.Decides.{eqb_tells}
@@ -14,11 +14,11 @@ use Rattle.cbs_rate.proofs.Rooms.{total_is}
 use Rattle.cbs_recovery.proofs.Recovery.{plan_one}
 use Rattle.cbs_steps.specs.History.{account, after}
 use Rattle.cbs_steps.specs.declared.step.Step.TheVariants.{Charge}
-use Rattle.cbs_guarantee.specs.Guarantees.{history_of}
+use Rattle.cbs_steps.specs.Setups.{history_of}
 use Rattle.cbsrun_loads.specs.Loads.{LoadFile}
 use Rattle.cbsrun_simulate.specs.Loading.{loading}
 use Rattle.cbsrun_sizing.specs.Budgets.{reserved}
-use Rattle.cbsrun_sizing.specs.Recoveries.{greatest_overrun, free, free_within, recovery, IsMadeUpWithin}
+use Rattle.cbsrun_sizing.specs.Recoveries.{greatest_overrun, free, recovery, IsMadeUpWithin}
 
 -- what is free in two spans of ticks, of which parts a and b are reserved: the same part of each
 same_part : (p s e m r g : ℕ) → p ≡ s + e → m ≡ r + g → r * p ≡ s * m → e * m ≡ p * g

@@ -1,7 +1,7 @@
 -- A bound on how late overruns can make the servers of a load.
 use Rattle.std.specs.Prelude.{◌≡◌, ℕ, ◌+◌, ◌≤◌, ◌<◌, true, max, List, length, ◌∷◌, Some, None}
 use Rattle.std.specs.List.{fold, range_with_len}
-use Rattle.cbs_guarantee.specs.Guarantees.{history_of}
+use Rattle.cbs_steps.specs.Setups.{history_of}
 use Rattle.cbsrun_loads.specs.Loads.{LoadFile}
 use Rattle.cbsrun_simulate.specs.Loading.{loading, job_of}
 use Rattle.cbsrun_simulate.specs.declared.load_job.LoadJob.{LoadJob}

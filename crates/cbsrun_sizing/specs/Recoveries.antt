@@ -11,7 +11,7 @@ use Rattle.cbs_steps.specs.History.{account, after}
 use Rattle.cbs_steps.specs.Quiet.{AdvanceQuietly}
 use Rattle.cbs_steps.specs.declared.step.Step.{Step}
 use Rattle.cbs_steps.specs.declared.step.Step.TheVariants.{Charge}
-use Rattle.cbs_guarantee.specs.Guarantees.{history_of}
+use Rattle.cbs_steps.specs.Setups.{history_of}
 use Rattle.cbsrun_loads.specs.Loads.{LoadFile}
 use Rattle.cbsrun_simulate.specs.Loading.{loading}
 use Rattle.cbsrun_simulate.specs.declared.load_job.LoadJob.{LoadJob}

@@ -1,7 +1,7 @@
 //! The words of a picture that stand around its rows.
 
-ghost use Rattle.std.specs.Prelude.{◌≡◌, ◌+◌, ◌≤◌, ◌++◌, IfOk, OnOk, count_by, length, string_bytes};
-ghost use Rattle.cbsrun_svg.specs.Heads.{all_units, came_text, column_text, figures_text, heading_text, hidden_text, is_late, is_late_at, is_whole, sentence_text, servers_text, summary_text, tenths_of, who_text};
+ghost use Rattle.std.specs.Prelude.{◌≡◌, ◌+◌, ◌≤◌, ◌++◌, IfOk, OnOk, count_by, string_bytes};
+ghost use Rattle.cbsrun_svg.specs.Heads.{all_units, came_text, column_text, figures_text, heading_text, hidden_text, is_late, is_whole, sentence_text, servers_text, summary_text, tenths_of, who_text};
 
 use crate::row::{terms_text, units_of};
 use cbs_rate::Bandwidth;

@@ -2,7 +2,7 @@
 
 ghost use Rattle.std.specs.Prelude.{◌≡◌, ◌≤◌, ◌++◌, IfOk, OnOk, length, string_bytes};
 ghost use Rattle.cbsrun_svg.specs.Heads.{heading_text, summary_text};
-ghost use Rattle.cbsrun_svg.specs.Pictures.{axis_for, body_text, budget_legend, description_text, drawn_text, fine_legend, grid_text, idle_boxes, idle_shape, idle_text, layout_for, left_of, legend_text, opening_text, page_text, rows_text, scale_of, sentences_text, server_row, server_sentence, svg_text, title_text, top_text, words_text, words_width};
+ghost use Rattle.cbsrun_svg.specs.Pictures.{body_text, budget_legend, description_text, drawn_text, fine_legend, grid_text, idle_boxes, idle_shape, idle_text, left_of, legend_text, opening_text, page_text, rows_text, scale_of, sentences_text, server_row, server_sentence, svg_text, title_text, top_text, words_text, words_width};
 ghost use Rattle.cbsrun_svg_shapes.specs.Shapes.{escaped};
 
 use crate::head::{append_sentence, heading_text, summary_text};

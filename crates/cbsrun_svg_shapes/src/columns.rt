@@ -1,7 +1,7 @@
 //! What a server does, drawn in columns by counts of ticks in cells.
 
 ghost use Rattle.std.specs.Prelude.{◌≡◌, ◌≤◌, ◌<◌, ◌++◌, IfOk, OnOk, length, string_bytes};
-ghost use Rattle.cbsrun_svg_shapes.specs.Columns.{cell_counts, columns_shape, count_up_to, counts_at, edge_between, edge_text, edges_text, end_text, height_before, height_of, heights_of, layer_height};
+ghost use Rattle.cbsrun_svg_shapes.specs.Columns.{cell_counts, columns_shape, count_up_to, counts_at, edge_between, edge_text, edges_text, end_text, height_before, height_of, heights_of};
 
 use crate::axis::Axis;
 use cbsrun_chart::{Counts, Stretch};

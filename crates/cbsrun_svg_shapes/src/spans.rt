@@ -1,6 +1,6 @@
 //! What a server does, drawn tick by tick.
 
-ghost use Rattle.std.specs.Prelude.{◌≡◌, ◌++◌, codes, decimal, IfOk, OnOk, flat_map, string_bytes};
+ghost use Rattle.std.specs.Prelude.{◌≡◌, ◌++◌, codes, decimal, IfOk, OnOk, string_bytes};
 ghost use Rattle.cbsrun_svg_shapes.specs.Shapes.{stretch_text};
 ghost use Rattle.cbsrun_svg_shapes.specs.Spans.{bar_class, bar_text, bar_title, finish_text, is_pale, job_text, late_by_text, late_text, number_text, other_text, pale_path, pale_text, placed_span, stretch_title};
 

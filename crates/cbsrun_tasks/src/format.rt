@@ -2,7 +2,6 @@
 
 ghost use Rattle.std.specs.Prelude.{◌≡◌, ◌≤◌};
 ghost use Rattle.cbsrun_tasks.specs.Entries.{format_of, longest_advance};
-ghost use Rattle.cbsrun_toml_tables.specs.Plans.{mode_of};
 
 use cbs_rules::LIMIT;
 use cbsrun_toml_tables::{FileKind, within};

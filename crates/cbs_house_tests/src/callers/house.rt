@@ -2,7 +2,7 @@
 
 ghost use Rattle.std.specs.Prelude.{◌≡◌, List, length, OnOk};
 ghost use Rattle.cbs_steps.specs.Punctual.{IsPunctual};
-ghost use Rattle.cbs_steps.specs.Setups.{terms_of};
+ghost use Rattle.cbs_steps.specs.Setups.{history_of};
 ghost use Rattle.cbs_steps.specs.declared.step.Step.{Step};
 
 use cbs_house::{House, HouseError, open_house};
@@ -20,13 +20,7 @@ pub fn opened_in_time<W: Work>(
 ) -> Result<House<W>, HouseError>
     requires { length modes ≡ length plan.rates }
     ensures { OnOk result ((steps : List (Step W))
-        → IsPunctual W.meaning (record {
-          setup = record {
-            servers = terms_of modes plan.rates;
-            backlog = 4;
-          };
-          steps = steps;
-        })) }
+        → IsPunctual W.meaning (history_of modes plan.rates 4 steps)) }
 {
     let (house, _clients) = open_house(alloc, plan, modes, 4, 4)?;
     Ok(house)

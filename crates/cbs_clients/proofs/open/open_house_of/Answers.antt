@@ -6,7 +6,7 @@ use Rattle.std.proofs.lemmas.List.FromFn.{length-range_with_len}
 use Rattle.std.proofs.lemmas.Result.{IfOk-weaker}
 use Rattle.cbs_rate.specs.Limits.{most_servers}
 use Rattle.cbs_steps.specs.History.{Setup}
-use Rattle.cbs_steps.specs.Setups.{terms_of}
+use Rattle.cbs_steps.specs.Setups.{setup_of}
 use Rattle.cbs_core.proofs.Laws.{new_count, terms_count}
 use Rattle.cbs_clients.specs.Calls.{IsNewHouse}
 use Rattle.cbs_clients.specs.Clients.{server_of, AreOpened, EachOpened}
@@ -17,13 +17,13 @@ use Rattle.cbs_clients.proofs.open.open_house_of.Goals as goal
 
 pub house_of-requires-clause-new : goal.house_of-requires-clause-new
 house_of-requires-clause-new g c =
-    let setup : Setup = record { servers = terms_of c.args.modes.now c.args.plan.now.rates; backlog = c.args.backlog } in
+    let setup : Setup = setup_of c.args.modes.now c.args.plan.now.rates c.args.backlog in
     (setup, c.in-Ok.ensures.start, omega (arith, c.if-backlog-eq0.false))
 
 pub returns-clause-new : goal.returns-clause-new
 returns-clause-new g c =
     let work = g.W.Work.meaning in
-    let setup : Setup = record { servers = terms_of c.args.modes.now c.args.plan.now.rates; backlog = c.args.backlog } in
+    let setup : Setup = setup_of c.args.modes.now c.args.plan.now.rates c.args.backlog in
     IfOk-weaker c.house_of.result (λ r. HousesCore c.in-Ok.core c.args.ring r.0 r.1.items) (λ r. IsNewHouse work setup r.0) (λ r made. record {
       agrees = rw made.same c.in-Ok.ensures.start;
       empty = made.empty;
@@ -35,7 +35,7 @@ returns-clause-new g c =
 pub returns-clause-clients : goal.returns-clause-clients
 returns-clause-clients g c =
     let rates = c.args.plan.now.rates in
-    let setup : Setup = record { servers = terms_of c.args.modes.now rates; backlog = c.args.backlog } in
+    let setup : Setup = setup_of c.args.modes.now rates c.args.backlog in
     let servers = new_count g.W.Work.meaning c.in-Ok.core setup c.in-Ok.ensures.start ∙ terms_count c.args.modes.now rates c.requires in
     IfOk-weaker c.house_of.result (λ r. HousesCore c.in-Ok.core c.args.ring r.0 r.1.items)
     (λ r. map server_of r.1.items ≡ range_with_len 0 (length rates)) (λ r made. rw servers at made.servers) c.house_of.ensures.made
@@ -44,7 +44,7 @@ pub returns-clause-count : goal.returns-clause-count
 returns-clause-count g c =
     let core = c.in-Ok.core in
     let rates = c.args.plan.now.rates in
-    let setup : Setup = record { servers = terms_of c.args.modes.now rates; backlog = c.args.backlog } in
+    let setup : Setup = setup_of c.args.modes.now rates c.args.backlog in
     let servers = new_count g.W.Work.meaning core setup c.in-Ok.ensures.start ∙ terms_count c.args.modes.now rates c.requires in
     IfOk-weaker c.house_of.result (λ r. HousesCore core c.args.ring r.0 r.1.items)
     (λ r. (length r.1.items ≡ length rates) × (length r.1.items ≤ most_servers)) (λ r made.

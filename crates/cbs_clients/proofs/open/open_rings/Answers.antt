@@ -1,4 +1,4 @@
-use Rattle.std.proofs.Common.{◌≡◌, [], ◌∷◌, ap, length, map, length-append, sym, ◌∙◌, arith, rules}
+use Rattle.std.proofs.Common.{◌≡◌, [], ◌∷◌, ap, length, map, length-append, sym, ◌∙◌, arith}
 use Rattle.cbs_clients.specs.Clients.{server_of, ring_of}
 use Rattle.cbs_clients.specs.Opened.{IsNewEnd, IsUnused}
 use Rattle.cbs_clients.specs.Rings.{consumer_ring}

@@ -1,4 +1,4 @@
-use Rattle.std.proofs.Common.{◌≡◌, ◌≤◌, ◌+◌, ◌-◌, length, ap, ◌∙◌, arith}
+use Rattle.std.proofs.Common.{◌≡◌, ◌+◌, ◌-◌, length, ap, ◌∙◌, arith}
 use Rattle.cbs_clients.specs.Houses.{core_of, Seat}
 use Rattle.cbs_clients.proofs.PolledServers.{polled_none, polled_next, polled_quietly, polled_few, same_servers, few_servers}
 use Rattle.cbs_clients.proofs.turn.poll_marked.Goals as goal

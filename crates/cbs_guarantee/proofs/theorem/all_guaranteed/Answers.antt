@@ -1,4 +1,4 @@
-use Rattle.cbs_guarantee.specs.Guarantees.{history_of}
+use Rattle.cbs_steps.specs.Setups.{history_of}
 use Rattle.cbs_guarantee.proofs.Guarantees.{guaranteed_of}
 use Rattle.cbs_guarantee.proofs.theorem.all_guaranteed.Goals as goal
 

@@ -1,5 +1,4 @@
 use Rattle.std.proofs.Common.{◌≡◌, false, refl, ap}
-use Rattle.std.specs.Prelude.{None}
 use Rattle.cbs_core.specs.Held.{held_at}
 use Rattle.cbs_steps.specs.Errors.{is_out_of_memory}
 use Rattle.cbs_steps.specs.declared.error.CoreError.{CoreError}

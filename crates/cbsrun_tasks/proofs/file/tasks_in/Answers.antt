@@ -1,4 +1,4 @@
-use Rattle.std.proofs.Common.{◌≡◌, rules, Ok, map, sym, ◌∙◌, length, refl, arith}
+use Rattle.std.proofs.Common.{◌≡◌, rules, Ok, map, sym, length, refl, arith}
 use Rattle.std.proofs.lemmas.Grind.{common_steps}
 use Rattle.toml.specs.View.{view, table_view}
 use Rattle.cbsrun_toml_tables.specs.declared.fault.Place.TheVariants.{Step as AtStep}

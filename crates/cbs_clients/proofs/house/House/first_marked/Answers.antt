@@ -1,4 +1,3 @@
-use Rattle.std.proofs.Common.{ap}
 use Rattle.cbs_clients.proofs.house.House.first_marked.Goals as goal
 
 pub returns-clause-some : goal.returns-clause-some

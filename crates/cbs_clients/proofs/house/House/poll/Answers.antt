@@ -1,5 +1,4 @@
 use Rattle.cbs_clients.specs.Houses.{core_of}
-use Rattle.cbs_host.specs.declared.poll.Poll.TheVariants.{Nothing}
 use Rattle.std.proofs.Common.{◌<◌, length, refl, ◌∙◌, inr, arith, rules}
 use Rattle.std.proofs.lemmas.List.{nil_from_length}
 use Rattle.cbs_clients.proofs.HouseInvariant.{same_shelf}

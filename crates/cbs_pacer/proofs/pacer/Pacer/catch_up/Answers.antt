@@ -1,4 +1,4 @@
-use Rattle.std.proofs.Common.{◌≡◌, ◌∙◌, ℕ, ◌≤◌, Option, Some, None, MatchOption, ap, arith}
+use Rattle.std.proofs.Common.{◌≡◌, ◌∙◌, ℕ, Option, Some, None, MatchOption, ap, arith}
 use Rattle.cbs_job.specs.Work.{Meaning}
 use Rattle.cbs_steps.specs.History.{World}
 use Rattle.cbs_steps.specs.Quiet.{IsAtRest, IsQuiet, IsIdleSpan}

@@ -1,4 +1,4 @@
-use Rattle.std.proofs.Common.{◌≡◌, ◌≤◌, min, None, arith, ap, refl, ◌∙◌}
+use Rattle.std.proofs.Common.{min, arith, ap, refl, ◌∙◌}
 use Rattle.cbs_pace.specs.Paces.{Pacing, time_to}
 use Rattle.cbs_clients.specs.Houses.{core_of}
 use Rattle.cbs_pacer.specs.Paced.{paced_of, paced_seen}
