@@ -1,0 +1,22 @@
+# What fish completes of the words of cbsrun: commands, options, formats, and files.
+#
+# It is installed as share/fish/vendor_completions.d/cbsrun.fish.
+
+set -l commands check simulate replay serve help
+set -l none "not __fish_seen_subcommand_from $commands"
+set -l formed '__fish_seen_subcommand_from simulate replay; and not __fish_seen_subcommand_from help'
+set -l on_file '__fish_seen_subcommand_from check simulate replay serve; and not __fish_seen_subcommand_from help'
+
+complete -c cbsrun -f
+complete -c cbsrun -s h -l help -d help
+complete -c cbsrun -n $none -s V -l version -d 'the version'
+complete -c cbsrun -n $none -a check -d 'what the servers of a file have and could have, and which jobs are in time always'
+complete -c cbsrun -n $none -a simulate -d 'run the jobs of a load, and report, draw, or write a line for each step'
+complete -c cbsrun -n $none -a replay -d 'run the steps of a task file, and write a line for each, report, or draw'
+complete -c cbsrun -n $none -a serve -d 'give the submits of each server to a client of its own, and write the results'
+complete -c cbsrun -n $none -a help -d 'the help of a command'
+complete -c cbsrun -n '__fish_seen_subcommand_from help' -a 'check simulate replay serve'
+complete -c cbsrun -n $formed -l as -x -a 'lines report json text svg trace' -d 'what is written'
+complete -c cbsrun -n $formed -l from -x -d 'the first tick that is shown'
+complete -c cbsrun -n $formed -l to -x -d 'the tick after the last one that is shown'
+complete -c cbsrun -n $on_file -k -a '(__fish_complete_suffix .toml)'
