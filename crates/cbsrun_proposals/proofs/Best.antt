@@ -1,5 +1,5 @@
 -- The best of what was looked at, and one more.
-use Rattle.std.proofs.Common.{◌≡◌, ℕ, ◌+◌, ◌*◌, ◌≤◌, ◌<◌, List, [], ◌∷◌, ◌++◌, length, take, get_or, flat_map, ap, ◌∙◌, arith, refl, Option, Some, None}
+use Rattle.std.proofs.Common.{◌≡◌, ℕ, ◌+◌, ◌*◌, ◌≤◌, ◌<◌, List, [], ◌∷◌, ◌++◌, length, take, get_or, flat_map, ap, ◌∙◌, arith, inl, Option, Some, None}
 use Rattle.std.specs.List.{All}
 use Rattle.std.proofs.Math.Nat.{lt_of_mul-lt-mul_left}
 use Rattle.std.proofs.lemmas.List.Elements.{All-append, All-cons, All-nil, All-weaker}
@@ -7,7 +7,9 @@ use Rattle.std.proofs.lemmas.List.{take_more, append-nil}
 use Rattle.std.proofs.lemmas.List.Concat.{flat_map-cons}
 use Rattle.std.proofs.lemmas.Grind.{flat_map-append}
 use Rattle.std.proofs.lemmas.Nat.{mul-le}
+use Rattle.cbs_rate.specs.Limits.{most_servers}
 use Rattle.cbs_rate.specs.Rate.{Rate, IsRate}
+use Rattle.cbs_guarantee.specs.declared.source.NotPromised.TheVariants as why
 use Rattle.cbs_guarantee.specs.declared.source.Source.{Source}
 use Rattle.cbsrun_proposals.specs.Proposals.{rate, IsLess, IsNotEnough, IsNeverEnough, IsLongest, IsNoLess, IsBestOf, IsEnough, parts_of, budgets_of}
 use Rattle.cbsrun_proposals.specs.declared.wanted.Wanted.{Wanted}
@@ -92,3 +94,7 @@ module _ (sources : List Source) (w : Wanted) where
       let next : budgets_of (take (i + 1) xs) ≡ budgets_of (take i xs) ++ parts_of x =
       ap budgets_of (take_more xs i d lt) ∙ flat_map-append parts_of (take i xs) (x ∷ []) ∙ ap (λ ys. budgets_of (take i xs) ++ ys) one in
       rw next h
+
+  -- of more sources than a plan takes servers nothing is promised
+  pub never_of_many : most_servers < length sources → IsBestOf sources w (budgets_of sources) None
+  never_of_many many = λ k d lt period lawful. inl (why.BeyondLimits, λ is. let few = is.few in absurd (omega arith))

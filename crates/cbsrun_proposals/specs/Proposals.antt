@@ -1,11 +1,14 @@
 -- Reservations with which the jobs of a server are promised in time.
-use Rattle.std.specs.Prelude.{ℕ, ◌≡◌, ◌⊎◌, ◌+◌, ◌*◌, ◌≤◌, ◌<◌, Bool, true, false, leb, List, map, flat_map, Option, Some, None}
+use Rattle.std.specs.Prelude.{ℕ, ◌≡◌, ◌⊎◌, ◌+◌, ◌*◌, ◌≤◌, ◌<◌, Bool, true, false, leb, List, map, flat_map, Option, Some, None, IfSome, option_map}
 use Rattle.std.specs.Int.{div_ceil}
 use Rattle.std.specs.List.{All, range_with_len}
+use Rattle.cbs_rate.specs.Limits.{most_backlog}
 use Rattle.cbs_rate.specs.Rate.{Rate, IsRate}
 use Rattle.cbs_guarantee.specs.Sources.{ticks_of, time_for, IsPromised, IsReason}
 use Rattle.cbs_guarantee.specs.declared.source.NotPromised.{NotPromised}
 use Rattle.cbs_guarantee.specs.declared.source.Source.{Source}
+use Rattle.cbsrun_proposals.specs.declared.remedy.Proposal.{Proposal}
+use Rattle.cbsrun_proposals.specs.declared.remedy.Remedy.{Remedy}
 use Rattle.cbsrun_proposals.specs.declared.wanted.Wanted.{Wanted}
 
 -- a time is at most the wanted one, if one is wanted
@@ -69,3 +72,14 @@ IsBestOf sources w budgets (Some server) =
 -- what is proposed for the sources
 abbrev pub IsProposal : List Source → Wanted → Option Rate → Type 0
 IsProposal sources w proposed = IsBestOf sources w (budgets_of sources) proposed
+
+-- a proposal as a reservation
+abbrev pub rate_of : Proposal → Rate
+rate_of p = rate p.budget p.period
+
+-- Why the server needs a remedy, and what would do: a greater backlog, if that alone is too small, and another
+-- reservation, if one is found
+pub record IsRemedy (sources : List Source) (w : Wanted) (server : Rate) (r : Remedy) : Type 0 where
+  pub needed : IsNotEnough sources w server
+  pub backlog : IfSome r.backlog (λ n. (n ≤ most_backlog) × IsEnough sources (record w { backlog = n }) server)
+  pub reservation : IsProposal sources w (option_map rate_of r.reservation)

@@ -2,7 +2,9 @@
 #![tactic(auto)]
 
 mod proposal;
+mod remedy;
 mod wanted;
 
 pub use proposal::propose;
+pub use remedy::{Proposal, Remedy, remedy_for};
 pub use wanted::Wanted;

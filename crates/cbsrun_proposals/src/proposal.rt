@@ -6,7 +6,7 @@ ghost use Rattle.cbsrun_proposals.specs.Proposals.{rate, parts_of, IsEnough, IsN
 
 use crate::wanted::{Wanted, is_enough};
 use cbs_guarantee::Source;
-use cbs_rate::{MAX_PERIOD, Reservation};
+use cbs_rate::{MAX_PERIOD, MAX_SERVERS, Reservation};
 
 /// The most equal parts of a job, one budget each, that are looked at.
 const MOST_PARTS: u64 = 8;
@@ -107,6 +107,9 @@ fn with_source(
 pub fn propose(sources: &[Source], wanted: Wanted) -> Option<Reservation>
     ensures { IsProposal sources.now wanted result }
 {
+    if sources.len() > MAX_SERVERS {
+        return None;
+    }
     let mut best = None;
     for source in sources {
         best = with_source(best, *source, sources, wanted);
