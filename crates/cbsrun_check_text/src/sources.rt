@@ -55,7 +55,8 @@ fn greatest_job(terms: &SourceTerms) -> u64
     requires { greatest_job terms.now ≤ most_ticks }
     ensures { result ≡ greatest_job terms.now }
 {
-    terms.units.greatest() * (1 + terms.overrun.greatest())
+    let ticks = 1 + u128::from(terms.overrun.greatest());
+    (u128::from(terms.units.greatest()) * ticks) as u64
 }
 
 /// Returns whether a source may ask for more than the share of its server.

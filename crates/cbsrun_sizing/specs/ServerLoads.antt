@@ -1,12 +1,11 @@
 -- The demand of the sources of each server of a load, and within how many ticks their jobs are finished.
-use Rattle.std.specs.Prelude.{◌≡◌, ℕ, ◌+◌, ◌-◌, ◌<◌, eqb, if◌then◌else◌, min, max, List, length, map, get_or, MatchOption, MatchResult, Option, Some, None, Err, All, ◌≤◌}
+use Rattle.std.specs.Prelude.{◌≡◌, ℕ, ◌+◌, ◌-◌, ◌<◌, eqb, if◌then◌else◌, min, max, List, length, map, get_or, MatchOption, MatchResult, Option, Some, None, Ok, All, ◌≤◌}
 use Rattle.std.specs.List.{sum, filter, fold, range_with_len}
 use Rattle.cbs_rate.specs.Limits.{greatest_number, longest_period}
 use Rattle.cbs_rate.specs.Plan.{Planned, IsGreatestBudget}
 use Rattle.cbs_rate.specs.Rate.{Rate}
 use Rattle.cbs_guarantee.specs.Parts.{rate_at}
 use Rattle.cbs_guarantee.specs.Sources.{IsPromised, IsReason}
-use Rattle.cbs_guarantee.specs.declared.source.NotPromised.TheVariants as why
 use Rattle.cbs_guarantee.specs.declared.source.Source.{Source}
 use Rattle.cbsrun_loads.specs.Loads.{LoadFile}
 use Rattle.cbsrun_proposals.specs.Proposals.{IsEnough, IsRemedy}
@@ -93,7 +92,7 @@ pub record IsServerLoad (f : LoadFile) (s : ℕ) (l : ServerLoad) : Type 0 where
 
 -- what stands for a server that does not exist
 abbrev pub no_load : ServerLoad
-no_load = record { asked = None; promised = Err why.BeyondLimits; remedy = None; room = 0 }
+no_load = record { asked = None; promised = Ok 0; remedy = None; room = 0 }
 
 -- the figures of each of the first n servers
 pub record AreServerLoads (f : LoadFile) (n : ℕ) (loads : List ServerLoad) : Type 0 where
