@@ -1,5 +1,5 @@
 -- Rows and notes by their parts, and texts that are appended.
-use Rattle.std.proofs.Common.{◌≡◌, ℕ, ◌<◌, List, [], ◌++◌, ◌+◌, length, get_or, refl, sym, ap, ◌∙◌, Result, Ok, Err}
+use Rattle.std.proofs.Common.{◌≡◌, ℕ, ◌<◌, List, [], ◌++◌, ◌+◌, length, get_or, refl, sym, ap, ◌∙◌, Option, Result, Ok, Err}
 use Rattle.std.specs.Prelude.{map, if◌then◌else◌}
 use Rattle.std.specs.Result.{OnOk, is_ok}
 use Rattle.std.specs.declared.alloc.AllocError.{AllocError}
@@ -10,7 +10,8 @@ use Rattle.cbs_guarantee.specs.Parts.{rate_at}
 use Rattle.cbs_rules.specs.declared.mode.Mode.{Mode}
 use Rattle.cbs_rules.specs.declared.mode.Mode.TheVariants.{Soft}
 use Rattle.cbsrun_simulate.specs.declared.terms.SourceTerms.{SourceTerms}
-use Rattle.cbsrun_sizing.specs.ServerLoads.{no_load}
+use Rattle.cbsrun_loads.specs.Loads.{LoadFile}
+use Rattle.cbsrun_sizing.specs.ServerLoads.{least_within, no_load}
 use Rattle.cbsrun_sizing.specs.declared.server_load.ServerLoad.{ServerLoad}
 use Rattle.cbsrun_check_text.specs.Notes.{note_at, note_text}
 use Rattle.cbsrun_check_text.specs.Tables.{server_row, row_at, source_row, row_of}
@@ -24,9 +25,10 @@ pub row_is : (names : List (List ℕ)) (modes : List Mode) (rates : List Rate) (
 row_is names modes rates budgets s name mode rate greatest e f g h = rw (e, f, g, h) refl
 
 -- the note of a server, by its parts
-pub note_is : (names : List (List ℕ)) (rates : List Rate) (loads : List ServerLoad) (s : ℕ) (name : List ℕ) (rate : Rate) (load : ServerLoad)
-    → get_or names s [] ≡ name → rate_at rates s ≡ rate → get_or loads s no_load ≡ load → note_at names rates loads s ≡ note_text name rate load.asked
-note_is names rates loads s name rate load e f g = rw (e, f, g) refl
+pub note_is : (f : LoadFile) (loads : List ServerLoad) (s : ℕ) (name : List ℕ) (rate : Rate) (within : Option ℕ) (load : ServerLoad)
+    → get_or f.names s [] ≡ name → rate_at f.plan.rates s ≡ rate → within ≡ least_within f.sources s → get_or loads s no_load ≡ load
+    → note_at f loads s ≡ note_text name rate f.backlog within load
+note_is f loads s name rate within load e r w g = rw (e, r, w, g) refl
 
 -- a name that was read at a place
 pub name_is : {X : Type 0} (f : X → List ℕ) (xs : List X) (i j : ℕ) (x : X) (name : List ℕ) → j < length xs → i ≡ j → x ≡ get_or xs i x → name ≡ f x
@@ -34,11 +36,12 @@ pub name_is : {X : Type 0} (f : X → List ℕ) (xs : List X) (i j : ℕ) (x : X
 name_is f xs i j x name lt e is n = get_or-map f xs j x [] lt ∙ (ap f (sym (rw e at is)) ∙ sym n)
 
 -- the notes with that of one more server
-pub note_more : (names : List (List ℕ)) (rates : List Rate) (loads : List ServerLoad) (s : ℕ) (old new name : List ℕ) (rate : Rate) (load : ServerLoad)
-    → new ≡ old ++ note_text name rate load.asked → old ≡ flat_map (note_at names rates loads) (range_with_len 0 s)
-    → get_or names s [] ≡ name → rate_at rates s ≡ rate → get_or loads s no_load ≡ load → new ≡ flat_map (note_at names rates loads) (range_with_len 0 (s + 1))
-note_more names rates loads s old new name rate load wrote so_far e f g =
-    wrote ∙ rw (so_far, ← (note_is names rates loads s name rate load e f g)) (sym (flat_more (note_at names rates loads) s))
+pub note_more : (f : LoadFile) (loads : List ServerLoad) (s : ℕ) (old new name : List ℕ) (rate : Rate) (within : Option ℕ) (load : ServerLoad)
+    → new ≡ old ++ note_text name rate f.backlog within load → old ≡ flat_map (note_at f loads) (range_with_len 0 s)
+    → get_or f.names s [] ≡ name → rate_at f.plan.rates s ≡ rate → within ≡ least_within f.sources s → get_or loads s no_load ≡ load
+    → new ≡ flat_map (note_at f loads) (range_with_len 0 (s + 1))
+note_more f loads s old new name rate within load wrote so_far e r w g =
+    wrote ∙ rw (so_far, ← (note_is f loads s name rate within load e r w g)) (sym (flat_more (note_at f loads) s))
 
 -- the row of a source, by its parts
 pub source_row_is : (names : List (List ℕ)) (rates : List Rate) (loads : List ServerLoad) (t : SourceTerms) (name : List ℕ) (rate : Rate) (load : ServerLoad)
@@ -51,8 +54,3 @@ pub pushed : (r : Result (Unit {0}) AllocError) (new old word whole : List ℕ) 
     → OnOk r (new ≡ whole)
 pushed (Ok x) new old word whole e f = e ∙ f
 pushed (Err x) new old word whole e f = tt
-
--- pieces that were appended one after the other
-pub pieces : (t₀ t₁ t₂ t₃ t₄ t₅ a b v c w d e f : List ℕ) → t₁ ≡ t₀ ++ a → t₂ ≡ t₁ ++ b → t₃ ≡ t₂ ++ v ++ c → t₄ ≡ t₃ ++ w ++ d → t₅ ≡ t₄ ++ e
-    → t₅ ++ f ≡ t₀ ++ (a ++ b ++ v ++ c ++ w ++ d ++ e ++ f)
-pieces t₀ t₁ t₂ t₃ t₄ t₅ a b v c w d e f e₁ e₂ e₃ e₄ e₅ = rw (e₅, e₄, e₃, e₂, e₁) (simp append_assoc)

@@ -10,7 +10,8 @@ abbrev pub shown_text : Shown → List ℕ
 shown_text (shown.Word word) = word.now
 shown_text (shown.Number number) = decimal number
 shown_text (shown.Range least greatest) = decimal least ++ codes ".." ++ decimal greatest
-shown_text (shown.Promise time) = codes "yes, by " ++ decimal time
+shown_text (shown.InTime time) = codes "yes, by " ++ decimal time
+shown_text (shown.TooLate time) = codes "no, by " ++ decimal time
 shown_text (shown.Fraction share) = fraction_text share.part share.whole
 shown_text (shown.MarkedFraction share _) = fraction_text share.part share.whole
 shown_text (shown.Percent share) = percent_text share.part share.whole

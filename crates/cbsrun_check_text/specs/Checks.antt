@@ -70,7 +70,7 @@ plan_text names modes plan budgets =
 abbrev pub load_text : LoadFile → List ℕ → List ServerLoad → List ℕ
 load_text f budgets loads =
     plan_text f.names f.modes f.plan budgets ++ sources_text f.names f.plan.rates loads f.sources ++ lateness_text f
-    ++ set_off (notes_text f.names f.plan.rates loads)
+    ++ set_off (notes_text f loads)
 
 -- the names of servers that have no names of their own
 abbrev pub numbered : ℕ → List (List ℕ)

@@ -1,52 +1,91 @@
--- Notes on servers whose sources may ask for more than the servers have.
-use Rattle.std.specs.Prelude.{ℕ, ◌*◌, ◌≤◌, ◌<◌, leb, ltb, if◌then◌else◌, List, [], ◌∷◌, ◌++◌, codes, decimal, flat_map, get_or, length, Option, Some, None}
-use Rattle.std.specs.Int.{div_ceil}
+-- Notes on servers whose jobs are not promised in time: why, and what would do.
+use Rattle.std.specs.Prelude.{ℕ, ◌≤◌, ◌<◌, leb, if◌then◌else◌, List, [], ◌∷◌, ◌++◌, codes, decimal, flat_map, get_or, length, Option, Some, None, Result, Ok, Err}
 use Rattle.std.specs.List.{range_with_len}
-use Rattle.cbs_rate.specs.Limits.{greatest_common_multiple, most_units}
+use Rattle.cbs_rate.specs.Limits.{greatest_common_multiple}
 use Rattle.cbs_rate.specs.Rate.{Rate}
 use Rattle.cbs_guarantee.specs.Parts.{rate_at}
-use Rattle.cbsrun_loads.specs.Loads.{most_sources}
-use Rattle.cbsrun_sizing.specs.ServerLoads.{no_load}
+use Rattle.cbs_guarantee.specs.declared.source.NotPromised.{NotPromised}
+use Rattle.cbs_guarantee.specs.declared.source.NotPromised.TheVariants as why
+use Rattle.cbsrun_loads.specs.Loads.{LoadFile}
+use Rattle.cbsrun_proposals.specs.declared.remedy.Proposal.{Proposal}
+use Rattle.cbsrun_proposals.specs.declared.remedy.Remedy.{Remedy}
+use Rattle.cbsrun_sizing.specs.ServerLoads.{least_within, no_load}
 use Rattle.cbsrun_sizing.specs.declared.asked.Asked.{Asked}
 use Rattle.cbsrun_sizing.specs.declared.server_load.ServerLoad.{ServerLoad}
+use Rattle.cbsrun_text.specs.Numbers.{number_text}
 use Rattle.cbsrun_check_text.specs.Fractions.{fraction_text}
 use Rattle.cbsrun_check_text.specs.Tables.{name_at}
 
--- the demand is within the limits of exact sums
+-- the demand is a share of a span
 pub record IsSummed (a : Asked) : Type 0 where
   pub some : 0 < a.of
   pub coarse : a.of ≤ greatest_common_multiple
-  pub small : a.ticks ≤ most_sources * (most_units * a.of)
 
--- the budget that covers the demand, or that no budget covers it. A budget is at most the period
-unfoldable pub cover_text : ℕ → ℕ → List ℕ
-cover_text budget period =
-    if leb budget period then codes "      " ++ decimal budget ++ codes " in every " ++ decimal period ++ codes " would cover it\n"
-    else codes "      no budget covers that\n"
+-- jobs are finished within so many ticks, and within so many is wanted
+unfoldable pub late_text : ℕ → Option ℕ → List ℕ
+late_text time within = codes "its jobs are finished within " ++ decimal time ++ codes " ticks, and " ++ number_text within ++ codes " is wanted"
 
--- the least budget at this period that covers the demand
-abbrev pub least_cover : ℕ → Asked → ℕ
-least_cover period a = div_ceil (a.ticks * period) a.of
+-- so many jobs may be unfinished at once, and the backlog holds so many
+unfoldable pub unfinished_text : ℕ → ℕ → List ℕ
+unfinished_text needed backlog = decimal needed ++ codes " of its jobs may be unfinished at once, and the backlog is " ++ decimal backlog
 
--- what the sources may ask for, what the server has, and which budget would cover the demand
-unfoldable pub too_much_text : List ℕ → Rate → Asked → List ℕ
-too_much_text name rate a =
-    codes "note: " ++ name ++ codes " may ask for " ++ fraction_text a.ticks a.of ++ codes " of the time and has " ++ fraction_text rate.budget rate.period
-    ++ codes " reserved;\n" ++ cover_text (least_cover rate.period a) rate.period
+-- why the jobs of a server are not promised in time: they are finished too late, or nothing is promised for a reason
+abbrev pub why_text : ℕ → Option ℕ → Result ℕ NotPromised → List ℕ
+why_text backlog within (Ok time) = late_text time within
+why_text backlog within (Err why.AsksTooMuch) = codes "its jobs may come faster than they are finished"
+why_text backlog within (Err (why.BacklogTooSmall needed)) = unfinished_text needed backlog
+why_text backlog within (Err why.SharedOverrun) = codes "a unit may overrun, and it has several sources"
+why_text backlog within (Err why.LateOverrun) = codes "a unit may overrun, and a job may not be finished when the next comes"
+why_text backlog within (Err why.BeyondLimits) = codes "its sources are beyond the limits"
 
--- the note of a server, if it needs one: its sources may ask for more than it has, or their demand cannot be summed
-abbrev pub note_text : List ℕ → Rate → Option Asked → List ℕ
-note_text name rate None =
-    codes "note: what the sources of " ++ name ++ codes " ask for is not summed:\n      the ticks between their jobs share too few factors\n"
-note_text name rate (Some a) = if ltb (rate.budget * a.of) (a.ticks * rate.period) then too_much_text name rate a else []
+-- the line that says so of a server
+unfoldable pub reason_text : List ℕ → ℕ → Option ℕ → Result ℕ NotPromised → List ℕ
+reason_text name backlog within promised =
+    codes "note: " ++ name ++ codes " is not promised: " ++ why_text backlog within promised ++ codes "\n"
+
+-- what the sources may ask for, and what the server has
+unfoldable pub demand_text : Rate → Asked → List ℕ
+demand_text rate a =
+    codes "      it may ask for " ++ fraction_text a.ticks a.of ++ codes " of the time, and has " ++ fraction_text rate.budget rate.period ++ codes "\n"
+
+-- the same, if they may ask for too much, and if it is summed
+abbrev pub asked_text : Rate → Result ℕ NotPromised → Option Asked → List ℕ
+asked_text rate (Err why.AsksTooMuch) (Some a) = demand_text rate a
+asked_text rate _ _ = []
+
+-- a backlog that would do, if there is one
+unfoldable pub backlog_text : Option ℕ → List ℕ
+backlog_text None = []
+backlog_text (Some n) = codes "      a backlog of " ++ decimal n ++ codes " would do\n"
+
+-- whether a budget fits, if there is room for so much at its period
+unfoldable pub fit_text : ℕ → ℕ → List ℕ
+fit_text budget room = if leb budget room then codes ", and fits\n" else codes ", but at most " ++ decimal room ++ codes " fits\n"
+
+-- a reservation that would do, and whether it fits
+unfoldable pub reservation_text : Option Proposal → ℕ → List ℕ
+reservation_text None room = codes "      no reservation that was tried would do\n"
+reservation_text (Some r) room =
+    codes "      " ++ decimal r.budget ++ codes " in every " ++ decimal r.period ++ codes " would do" ++ fit_text r.budget room
+
+-- what would do
+unfoldable pub remedy_text : Remedy → ℕ → List ℕ
+remedy_text m room = backlog_text m.backlog ++ reservation_text m.reservation room
+
+-- the note of a server, if a remedy is needed
+unfoldable pub note_text : List ℕ → Rate → ℕ → Option ℕ → ServerLoad → List ℕ
+note_text name rate backlog within l = elim l.remedy [
+  | None ↦ []
+  | Some m ↦ reason_text name backlog within l.promised ++ asked_text rate l.promised l.asked ++ remedy_text m l.room
+]
 
 -- the note of server s
-abbrev pub note_at : List (List ℕ) → List Rate → List ServerLoad → ℕ → List ℕ
-note_at names rates loads s = note_text (name_at names s) (rate_at rates s) (get_or loads s no_load).asked
+abbrev pub note_at : LoadFile → List ServerLoad → ℕ → List ℕ
+note_at f loads s = note_text (name_at f.names s) (rate_at f.plan.rates s) f.backlog (least_within f.sources s) (get_or loads s no_load)
 
 -- the notes of all servers
-abbrev pub notes_text : List (List ℕ) → List Rate → List ServerLoad → List ℕ
-notes_text names rates loads = flat_map (note_at names rates loads) (range_with_len 0 (length rates))
+abbrev pub notes_text : LoadFile → List ServerLoad → List ℕ
+notes_text f loads = flat_map (note_at f loads) (range_with_len 0 (length f.plan.rates))
 
 -- an empty line before a text, if there is a text
 abbrev pub set_off : List ℕ → List ℕ

@@ -1,9 +1,10 @@
 -- The tables of servers and of sources.
-use Rattle.std.specs.Prelude.{ℕ, List, [], ◌∷◌, ◌++◌, codes, decimal, get_or, length, map, ◌*◌, Bool, eqb, ltb, if◌then◌else◌, Option, Some, None}
+use Rattle.std.specs.Prelude.{ℕ, List, [], ◌∷◌, ◌++◌, codes, decimal, get_or, length, map, ◌*◌, Bool, eqb, ltb, if◌then◌else◌, Option, Some, None, Result, Ok, Err, ◌+◌}
 use Rattle.std.specs.List.{range_with_len}
 use Rattle.cbs_rate.specs.Plan.{common_multiple}
 use Rattle.cbs_rate.specs.Rate.{Rate}
 use Rattle.cbs_guarantee.specs.Parts.{rate_at}
+use Rattle.cbs_guarantee.specs.declared.source.NotPromised.{NotPromised}
 use Rattle.cbs_rules.specs.declared.mode.Mode.{Mode}
 use Rattle.cbs_rules.specs.declared.mode.Mode.TheVariants.{Soft}
 use Rattle.cbsrun_sizing.specs.Budgets.{reserved, is_within}
@@ -51,25 +52,29 @@ servers_table names modes rates budgets =
 abbrev pub range_text : Bounds → List ℕ
 range_text r = if eqb r.least r.greatest then decimal r.least else decimal r.least ++ codes ".." ++ decimal r.greatest
 
--- whether each job is finished in time, if it is promised to be finished within this time
+-- within how many ticks each job is promised to be finished, and whether that is in time
 abbrev pub promise_text : ℕ → Bool → List ℕ
-promise_text time in_time = if in_time then codes "yes, by " ++ decimal time else codes "not promised"
+promise_text time in_time = (if in_time then codes "yes, by " else codes "no, by ") ++ decimal time
 
--- the same, by the promised and the wanted time, if there are these
-abbrev pub in_time_text : Option ℕ → Option ℕ → List ℕ
-in_time_text None within = codes "not promised"
-in_time_text (Some time) within = promise_text time (is_within time within)
+-- the same, if something is promised
+abbrev pub in_time_text : Result ℕ NotPromised → Option ℕ → List ℕ
+in_time_text (Err why) within = codes "not promised"
+in_time_text (Ok time) within = promise_text time (is_within time within)
 
--- the source may ask for more than the share of its server. It asks for the most units of a job in the least ticks to
+-- the most ticks of a job: its units, and what they may overrun
+abbrev pub greatest_job : SourceTerms → ℕ
+greatest_job t = t.units.greatest * (1 + t.overrun.greatest)
+
+-- the source may ask for more than the share of its server. It asks for the most ticks of a job in the least ticks to
 -- the next
 abbrev pub is_asking_too_much : Rate → SourceTerms → Bool
-is_asking_too_much rate t = ltb (rate.budget * t.every.least) (t.units.greatest * rate.period)
+is_asking_too_much rate t = ltb (rate.budget * t.every.least) (greatest_job t * rate.period)
 
 -- the row of a source: what it may ask for, what its server has, and what is promised
-abbrev pub source_row : List ℕ → Rate → Option ℕ → SourceTerms → List CellText
+abbrev pub source_row : List ℕ → Rate → Result ℕ NotPromised → SourceTerms → List CellText
 source_row name rate promised t =
     plain name ∷ plain (range_text t.units) ∷ plain (range_text t.every)
-    ∷ marked_if (is_asking_too_much rate t) (fraction_text t.units.greatest t.every.least) ∷ plain (fraction_text rate.budget rate.period)
+    ∷ marked_if (is_asking_too_much rate t) (fraction_text (greatest_job t) t.every.least) ∷ plain (fraction_text rate.budget rate.period)
     ∷ plain (number_text t.within) ∷ plain (in_time_text promised t.within) ∷ []
 
 abbrev pub sources_heading : List CellText

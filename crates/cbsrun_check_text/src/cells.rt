@@ -17,7 +17,9 @@ pub(crate) enum Shown<'a> {
     /// The least and the greatest number of a range.
     Range(u64, u64),
     /// That each job is finished in time: within this many ticks.
-    Promise(u64),
+    InTime(u64),
+    /// That each job is finished within this many ticks, which is not in time.
+    TooLate(u64),
     /// A share, as a shortened fraction.
     Fraction(Share),
     /// The same. Its cell is marked if the condition holds.
@@ -35,7 +37,8 @@ impl Shown<'_> {
             Shown::Word(word) => String::from_str(alloc, word),
             Shown::Number(number) => number.to_string(alloc),
             Shown::Range(least, greatest) => format!(in alloc; "{least}..{greatest}"),
-            Shown::Promise(time) => format!(in alloc; "yes, by {time}"),
+            Shown::InTime(time) => format!(in alloc; "yes, by {time}"),
+            Shown::TooLate(time) => format!(in alloc; "no, by {time}"),
             Shown::Fraction(share) | Shown::MarkedFraction(share, _) => share.fraction(alloc),
             Shown::Percent(share) => share.percent(alloc),
         }

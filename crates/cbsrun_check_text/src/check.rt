@@ -106,8 +106,8 @@ pub fn check_plan(alloc: Global, plan: &Plan, modes: &Modes) -> Result<String, A
 ///
 /// If the load has sources, a table of them follows. The table shows what each source may ask for, and whether its jobs
 /// are always in time, whatever the other servers do. If units may overrun, a line says how late they can make a
-/// server, and another how soon that is made up. There is a note for each server whose sources may ask for more than it
-/// has. The only error is out of memory.
+/// server, and another how soon that is made up. A note for each server whose jobs are not promised in time says why,
+/// and what would do. The only error is out of memory.
 pub fn check_load(alloc: Global, load: &Load) -> Result<String, AllocError>
     ensures { IfOk result (λ text. IsLoadText load.now (string_bytes text)) }
 {

@@ -25,7 +25,7 @@ fn is_overrunning(sources: &[SourceTerms]) -> bool
 
 /// Appends that overruns can make servers late by at most this many ticks. The only error is out of memory.
 #[tactic(auto, unfolding(crate::specs::Checks::late_by_text))]
-fn append_late_by(text: &mut String, ticks: u128) -> Result<(), AllocError>
+fn append_late_by(text: &mut String, ticks: u64) -> Result<(), AllocError>
     ensures { OnOk result (string_bytes text.new ≡ string_bytes text.old ++ late_by_text ticks) }
 {
     if ticks == 0 {

@@ -1,90 +1,222 @@
-//! Notes on servers whose sources may ask for more than the servers have.
+//! Notes on servers whose jobs are not promised in time: why, and what would do. The only error of each call is out of
+//! memory.
 
-ghost use Rattle.std.specs.Prelude.{◌≡◌, ◌++◌, ◌<◌, ◌≤◌, length, IfSome, IfOk, OnOk, string_bytes};
+ghost use Rattle.std.specs.Prelude.{◌≡◌, ◌++◌, ◌<◌, ◌≤◌, length, Some, IfSome, IfOk, OnOk, string_bytes};
 ghost use Rattle.cbsrun_sizing.specs.ServerLoads.{AreServerLoads};
-ghost use Rattle.cbsrun_check_text.specs.Notes.{IsSummed, cover_text, too_much_text, note_text, notes_text, set_off};
+ghost use Rattle.cbsrun_text.specs.Numbers.{number_text};
+ghost use Rattle.cbsrun_check_text.specs.Notes.{IsSummed, late_text, unfinished_text, why_text, reason_text, demand_text, asked_text, backlog_text, fit_text, reservation_text, remedy_text, note_text, notes_text, set_off};
 
 use crate::fractions::append_fraction;
+use cbs_guarantee::NotPromised;
 use cbs_rate::Reservation;
 use cbsrun_loads::Load;
-use cbsrun_sizing::{Asked, ServerLoad};
+use cbsrun_proposals::{Proposal, Remedy};
+use cbsrun_sizing::{Asked, ServerLoad, least_within};
 use cbsrun_text::append_pair;
 use std::alloc::{AllocError, Global};
 
-/// Appends the budget that covers the demand, or that no budget covers it. A budget is at most the period. The only
-/// error is out of memory.
-#[tactic(auto, unfolding(crate::specs::Notes::cover_text))]
-fn append_cover(text: &mut String, budget: u128, period: u64) -> Result<(), AllocError>
-    ensures { OnOk result (string_bytes text.new ≡ string_bytes text.old
-        ++ cover_text budget period) }
+/// Appends a number, or `-` if there is none.
+fn append_number(text: &mut String, number: Option<u64>) -> Result<(), AllocError>
+    ensures { OnOk result (string_bytes text.new ≡ string_bytes text.old ++ number_text number) }
 {
-    if budget > u128::from(period) {
-        return text.push_str("      no budget covers that\n");
+    match number {
+        Some(number) => append_pair(text, "", number),
+        None => text.push_str("-"),
     }
-    append_pair(text, "      ", budget)?;
-    append_pair(text, " in every ", period)?;
-    text.push_str(" would cover it\n")
 }
 
-/// Appends the note that the sources of a server may ask for more than it has. The only error is out of memory.
-#[tactic(auto, unfolding(crate::specs::Notes::too_much_text))]
-fn append_too_much(
+/// Appends that jobs are finished within so many ticks, and within how many is wanted.
+#[tactic(auto, unfolding(crate::specs::Notes::late_text))]
+fn append_late(text: &mut String, time: u64, within: Option<u64>) -> Result<(), AllocError>
+    ensures { OnOk result (string_bytes text.new ≡ string_bytes text.old
+        ++ late_text time within) }
+{
+    append_pair(text, "its jobs are finished within ", time)?;
+    text.push_str(" ticks, and ")?;
+    append_number(text, within)?;
+    text.push_str(" is wanted")
+}
+
+/// Appends how many jobs may be unfinished at once, and how many the backlog holds.
+#[tactic(auto, unfolding(crate::specs::Notes::unfinished_text))]
+fn append_unfinished(text: &mut String, needed: u64, backlog: u64) -> Result<(), AllocError>
+    ensures { OnOk result (string_bytes text.new ≡ string_bytes text.old
+        ++ unfinished_text needed backlog) }
+{
+    append_pair(text, "", needed)?;
+    append_pair(
+        text,
+        " of its jobs may be unfinished at once, and the backlog is ",
+        backlog,
+    )
+}
+
+/// Appends why jobs are not promised in time.
+fn append_why(
     text: &mut String,
-    name: &str,
-    rate: Reservation,
-    asked: Asked,
+    backlog: u64,
+    within: Option<u64>,
+    promised: Result<u64, NotPromised>,
 ) -> Result<(), AllocError>
+    ensures { OnOk result (string_bytes text.new ≡ string_bytes text.old
+        ++ why_text backlog within promised) }
+{
+    match promised {
+        Ok(time) => append_late(text, time, within),
+        Err(NotPromised::AsksTooMuch) => {
+            text.push_str("its jobs may come faster than they are finished")
+        }
+        Err(NotPromised::BacklogTooSmall { needed }) => append_unfinished(text, needed, backlog),
+        Err(NotPromised::SharedOverrun) => {
+            text.push_str("a unit may overrun, and it has several sources")
+        }
+        Err(NotPromised::LateOverrun) => text.push_str(
+            "a unit may overrun, and a job may not be finished when the next comes",
+        ),
+        Err(NotPromised::BeyondLimits) => text.push_str("its sources are beyond the limits"),
+    }
+}
+
+/// Appends what the sources may ask for, and what the server has.
+#[tactic(auto, unfolding(crate::specs::Notes::demand_text))]
+fn append_demand(text: &mut String, rate: Reservation, asked: Asked) -> Result<(), AllocError>
     requires { IsSummed asked }
     ensures { OnOk result (string_bytes text.new ≡ string_bytes text.old
-        ++ too_much_text name.now rate asked) }
+        ++ demand_text rate asked) }
 {
-    let of = u128::from(asked.of);
-    let period = rate.period();
-    let cover = (asked.ticks * u128::from(period)).div_ceil(of);
-    text.push_str("note: ")?;
-    text.push_str(name)?;
-    append_fraction(text, " may ask for ", asked.ticks, of)?;
     append_fraction(
         text,
-        " of the time and has ",
-        u128::from(rate.budget()),
-        u128::from(period),
+        "      it may ask for ",
+        asked.ticks,
+        u128::from(asked.of),
     )?;
-    text.push_str(" reserved;\n")?;
-    append_cover(text, cover, period)
+    append_fraction(
+        text,
+        " of the time, and has ",
+        u128::from(rate.budget()),
+        u128::from(rate.period()),
+    )?;
+    text.push_str("\n")
 }
 
-/// Appends the note of a server, if it needs one. The only error is out of memory.
-fn append_note(
+/// Appends what the sources may ask for, if that is too much, and if it is summed.
+fn append_asked(
     text: &mut String,
-    name: &str,
     rate: Reservation,
+    promised: Result<u64, NotPromised>,
     asked: Option<Asked>,
 ) -> Result<(), AllocError>
     requires { IfSome asked IsSummed }
     ensures { OnOk result (string_bytes text.new ≡ string_bytes text.old
-        ++ note_text name.now rate asked) }
+        ++ asked_text rate promised asked) }
 {
-    let Some(asked) = asked else {
-        text.push_str("note: what the sources of ")?;
-        text.push_str(name)?;
-        text.push_str(
-            " ask for is not summed:\n      the ticks between their jobs share too few factors\n",
-        )?;
-        return Ok(());
-    };
-    let reserved = u128::from(rate.budget()) * u128::from(asked.of);
-    if reserved >= asked.ticks * u128::from(rate.period()) {
-        return Ok(());
+    match (promised, asked) {
+        (Err(NotPromised::AsksTooMuch), Some(asked)) => append_demand(text, rate, asked),
+        _ => Ok(()),
     }
-    append_too_much(text, name, rate, asked)
 }
 
-/// Returns the notes of all servers of a load, with these figures of their sources. The only error is out of memory.
+/// Appends a backlog that would do, if there is one.
+#[tactic(auto, unfolding(crate::specs::Notes::backlog_text))]
+fn append_backlog(text: &mut String, backlog: Option<u64>) -> Result<(), AllocError>
+    ensures { OnOk result (string_bytes text.new ≡ string_bytes text.old
+        ++ backlog_text backlog) }
+{
+    let Some(backlog) = backlog else {
+        return Ok(());
+    };
+    append_pair(text, "      a backlog of ", backlog)?;
+    text.push_str(" would do\n")
+}
+
+/// Appends whether a budget fits, if there is room for so much at its period.
+#[tactic(auto, unfolding(crate::specs::Notes::fit_text))]
+fn append_fit(text: &mut String, budget: u64, room: u64) -> Result<(), AllocError>
+    ensures { OnOk result (string_bytes text.new ≡ string_bytes text.old
+        ++ fit_text budget room) }
+{
+    if budget <= room {
+        return text.push_str(", and fits\n");
+    }
+    append_pair(text, ", but at most ", room)?;
+    text.push_str(" fits\n")
+}
+
+/// Appends a reservation that would do, and whether it fits, or that none was found.
+#[tactic(auto, unfolding(crate::specs::Notes::reservation_text))]
+fn append_reservation(
+    text: &mut String,
+    reservation: Option<Proposal>,
+    room: u64,
+) -> Result<(), AllocError>
+    ensures { OnOk result (string_bytes text.new ≡ string_bytes text.old
+        ++ reservation_text reservation room) }
+{
+    let Some(reservation) = reservation else {
+        return text.push_str("      no reservation that was tried would do\n");
+    };
+    append_pair(text, "      ", reservation.budget)?;
+    append_pair(text, " in every ", reservation.period)?;
+    text.push_str(" would do")?;
+    append_fit(text, reservation.budget, room)
+}
+
+/// Appends what would do.
+#[tactic(auto, unfolding(crate::specs::Notes::remedy_text))]
+fn append_remedy(text: &mut String, remedy: Remedy, room: u64) -> Result<(), AllocError>
+    ensures { OnOk result (string_bytes text.new ≡ string_bytes text.old
+        ++ remedy_text remedy room) }
+{
+    append_backlog(text, remedy.backlog)?;
+    append_reservation(text, remedy.reservation, room)
+}
+
+/// Appends the first line of a note: why the jobs of a server are not promised in time.
+#[tactic(auto, unfolding(crate::specs::Notes::reason_text))]
+fn append_reason(
+    text: &mut String,
+    name: &str,
+    backlog: u64,
+    within: Option<u64>,
+    promised: Result<u64, NotPromised>,
+) -> Result<(), AllocError>
+    ensures { OnOk result (string_bytes text.new ≡ string_bytes text.old
+        ++ reason_text name.now backlog within promised) }
+{
+    text.push_str("note: ")?;
+    text.push_str(name)?;
+    text.push_str(" is not promised: ")?;
+    append_why(text, backlog, within, promised)?;
+    text.push_str("\n")
+}
+
+/// Appends the note of a server, if a remedy is needed. `backlog` is the load's, and `within` the least that a source of
+/// the server wants.
+#[tactic(auto, unfolding(crate::specs::Notes::note_text))]
+fn append_note(
+    text: &mut String,
+    name: &str,
+    rate: Reservation,
+    backlog: u64,
+    within: Option<u64>,
+    load: ServerLoad,
+) -> Result<(), AllocError>
+    requires { IfSome load.asked IsSummed }
+    ensures { OnOk result (string_bytes text.new ≡ string_bytes text.old
+        ++ note_text name.now rate backlog within load) }
+{
+    let Some(remedy) = load.remedy else {
+        return Ok(());
+    };
+    append_reason(text, name, backlog, within, load.promised)?;
+    append_asked(text, rate, load.promised, load.asked)?;
+    append_remedy(text, remedy, load.room)
+}
+
+/// Returns the notes of all servers of a load, with these figures of their sources.
 fn notes(alloc: Global, load: &Load, loads: &[ServerLoad]) -> Result<String, AllocError>
     requires { AreServerLoads load.now (length load.now.plan.rates) loads.now }
-    ensures { IfOk result (λ text. string_bytes text
-        ≡ notes_text load.now.names load.now.plan.rates loads.now) }
+    ensures { IfOk result (λ text. string_bytes text ≡ notes_text load.now loads.now) }
 {
     let names = load.names();
     let plan = load.plan();
@@ -92,7 +224,15 @@ fn notes(alloc: Global, load: &Load, loads: &[ServerLoad]) -> Result<String, All
     for server in 0..plan.len() as u16 {
         let at = usize::from(server);
         let rate = plan.get(server).unwrap();
-        append_note(&mut text, names[at].as_str(), rate, loads[at].asked)?;
+        let within = least_within(load.sources(), server);
+        append_note(
+            &mut text,
+            names[at].as_str(),
+            rate,
+            load.backlog(),
+            within,
+            loads[at],
+        )?;
     }
     Ok(text)
 }
@@ -107,7 +247,7 @@ pub(crate) fn append_notes(
 ) -> Result<(), AllocError>
     requires { AreServerLoads load.now (length load.now.plan.rates) loads.now }
     ensures { OnOk result (string_bytes text.new ≡ string_bytes text.old
-        ++ set_off (notes_text load.now.names load.now.plan.rates loads.now)) }
+        ++ set_off (notes_text load.now loads.now)) }
 {
     let notes = notes(alloc, load, loads)?;
     if notes.is_empty() {

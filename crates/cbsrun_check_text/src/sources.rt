@@ -1,13 +1,15 @@
 //! The table of the sources.
 
-ghost use Rattle.std.specs.Prelude.{◌≡◌, ◌++◌, ◌<◌, length, IfOk, OnOk, string_bytes};
+ghost use Rattle.std.specs.Prelude.{◌≡◌, ◌++◌, ◌<◌, ◌≤◌, length, IfOk, OnOk, string_bytes};
 ghost use Rattle.cbsrun_text.specs.Columns.{plain, rows_of};
 ghost use Rattle.cbsrun_text.specs.Numbers.{number_text};
+ghost use Rattle.cbsrun_sizing.specs.Asked.{most_ticks};
 ghost use Rattle.cbsrun_check_text.specs.Cells.{cell_of};
-ghost use Rattle.cbsrun_check_text.specs.Tables.{range_text, in_time_text, is_asking_too_much, source_row, row_of, sources_heading, sources_table, sources_text};
+ghost use Rattle.cbsrun_check_text.specs.Tables.{range_text, in_time_text, greatest_job, is_asking_too_much, source_row, row_of, sources_heading, sources_table, sources_text};
 
 use crate::cells::Shown;
 use crate::fractions::Share;
+use cbs_guarantee::NotPromised;
 use cbs_rate::Reservation;
 use cbsrun_loads::Load;
 use cbsrun_simulate::{Range, SourceTerms};
@@ -38,21 +40,32 @@ fn number_shown(number: Option<u64>) -> Shown<'static>
 }
 
 /// Returns what a cell shows of whether each job is promised to be finished within the wanted ticks.
-fn promise_shown(promised: Option<u64>, within: Option<u64>) -> Shown<'static>
+fn promise_shown(promised: Result<u64, NotPromised>, within: Option<u64>) -> Shown<'static>
     ensures { cell_of result ≡ plain (in_time_text promised within) }
 {
     match promised {
-        Some(time) if is_within(time, within) => Shown::Promise(time),
-        _ => Shown::Word("not promised"),
+        Ok(time) if is_within(time, within) => Shown::InTime(time),
+        Ok(time) => Shown::TooLate(time),
+        Err(_) => Shown::Word("not promised"),
     }
+}
+
+/// Returns the most ticks of a job of a source: its units, and what they may overrun.
+fn greatest_job(terms: &SourceTerms) -> u64
+    requires { greatest_job terms.now ≤ most_ticks }
+    ensures { result ≡ greatest_job terms.now }
+{
+    let ticks = 1 + u128::from(terms.overrun.greatest());
+    (u128::from(terms.units.greatest()) * ticks) as u64
 }
 
 /// Returns whether a source may ask for more than the share of its server.
 fn is_asking_too_much(rate: Reservation, terms: &SourceTerms) -> bool
+    requires { greatest_job terms.now ≤ most_ticks }
     ensures { result ≡ is_asking_too_much rate terms.now }
 {
     u128::from(rate.budget()) * u128::from(terms.every.least())
-        < u128::from(terms.units.greatest()) * u128::from(rate.period())
+        < u128::from(greatest_job(terms)) * u128::from(rate.period())
 }
 
 /// Returns the heading of the table.
@@ -78,13 +91,14 @@ fn source_row(
     alloc: Global,
     name: &str,
     rate: Reservation,
-    promised: Option<u64>,
+    promised: Result<u64, NotPromised>,
     terms: &SourceTerms,
 ) -> Result<Vec<Cell>, AllocError>
-    requires { 0 < terms.now.every.least }
+    requires apart { 0 < terms.now.every.least }
+    requires short { greatest_job terms.now ≤ most_ticks }
     ensures { IfOk result (λ row. row.items ≡ source_row name.now rate promised terms.now) }
 {
-    let asked = Share::new(terms.units.greatest(), terms.every.least());
+    let asked = Share::new(greatest_job(terms), terms.every.least());
     let reserved = Share::new(rate.budget(), rate.period());
     cells(
         alloc,
@@ -110,6 +124,7 @@ fn row_of(
     requires counted { length loads.now ≡ length load.now.plan.rates }
     requires held { terms.now.server < length load.now.plan.rates }
     requires apart { 0 < terms.now.every.least }
+    requires short { greatest_job terms.now ≤ most_ticks }
     ensures { IfOk result (λ row. row.items ≡ row_of load.now.names load.now.plan.rates loads.now
         terms.now) }
 {

@@ -14,6 +14,7 @@ use Rattle.cbs_rate.specs.Plan.{share, IsCommonMultiple}
 use Rattle.cbs_rate.specs.Rate.{Rate}
 use Rattle.cbs_rate.proofs.Lists.{AllByRecursion-push, AllByRecursion-from_push}
 use Rattle.cbs_rate.proofs.Multiples.{common-dvd, some_from_dvd}
+use Rattle.cbs_guarantee.specs.Sources.{ticks_of}
 use Rattle.cbs_guarantee.specs.declared.source.Source.{Source}
 use Rattle.cbsrun_sizing.specs.Asked.{demand, demands, AreTooFine, IsJoined, IsJoinedTooFine}
 use Rattle.cbsrun_sizing.specs.declared.asked.Asked.{Asked}
@@ -68,7 +69,7 @@ module _ (a b g : ℕ) (a_some : 0 < a) (b_some : 0 < b) (gcd : IsGcd a b g) whe
 pub joined_self : (before : Asked) (source : Source) (g : ℕ) → 0 < before.of → 0 < source.every → IsGcd before.of source.every g
     → ((d k : ℕ) → d ∣ k * before.of → d ∣ k * source.every → d ∣ k * g) → before.of / g * source.every ≤ 1_000_000_000_000_000_000
     → IsJoined before source (record {
-      ticks = before.ticks * (before.of / g * source.every / before.of) + source.units * (before.of / g * source.every / source.every);
+      ticks = before.ticks * (before.of / g * source.every / before.of) + ticks_of source * (before.of / g * source.every / source.every);
       of = before.of / g * source.every;
     })
 joined_self before source g of_some every_some gcd scaled coarse = record {
@@ -151,29 +152,29 @@ summed_step sources i d before after lt old joined =
     rw (take_more sources i d lt) (summed_more (take i sources) (get_or sources i d) before after old joined)
 
 -- one more source adds at most as many ticks as it may ask for
-pub small_step : (i : ℕ) (before after : Asked) (source : Source) → before.ticks ≤ i * (1000000 * before.of) → IsJoined before source after
-    → after.ticks ≤ before.ticks * (after.of / before.of) + 1000000 * after.of → after.ticks ≤ (i + 1) * (1000000 * after.of)
+pub small_step : (i : ℕ) (before after : Asked) (source : Source) → before.ticks ≤ i * (1000000001000000 * before.of) → IsJoined before source after
+    → after.ticks ≤ before.ticks * (after.of / before.of) + 1000000001000000 * after.of → after.ticks ≤ (i + 1) * (1000000001000000 * after.of)
 small_step i before after source old joined h =
     let d = mul-div_cancel' before.of {m = after.of} joined.of in
-    small_more i before.ticks before.of after.ticks after.of (after.of / before.of) 1000000 old (omega arith) h
+    small_more i before.ticks before.of after.ticks after.of (after.of / before.of) 1000000001000000 old (omega arith) h
 
 -- three factors in another order
 scaled_bound : (k u o n c : ℕ) → o * n ≡ c → k * (u * o) * n ≡ k * (u * c)
 scaled_bound k u o n c e = rw (← e) (omega arith)
 
 -- the ticks of the demand stay within the limit
-pub before_small : (ticks of common : ℕ) → of ∣ common → ticks ≤ 65536 * (1000000 * of) → ticks * (common / of) ≤ 65536 * (1000000 * common)
+pub before_small : (ticks of common : ℕ) → of ∣ common → ticks ≤ 65536 * (1000000001000000 * of) → ticks * (common / of) ≤ 65536 * (1000000001000000 * common)
 before_small ticks of common d small =
-    let e = scaled_bound 65536 1000000 of (common / of) common (mul-div_cancel' of {m = common} d) in
-    let times = mul-le ticks (common / of) (65536 * (1000000 * of)) (common / of) small (omega arith) in
+    let e = scaled_bound 65536 1000000001000000 of (common / of) common (mul-div_cancel' of {m = common} d) in
+    let times = mul-le ticks (common / of) (65536 * (1000000001000000 * of)) (common / of) small (omega arith) in
     omega arith
 
--- at most a million units, once in so many ticks, are at most a million in each
-pub more_small : (units every common : ℕ) → every ∣ common → 0 < every → units ≤ 1000000 → units * (common / every) ≤ 1000000 * common
+-- so many ticks, once in every so many, are at most as many in each
+pub more_small : (units every common : ℕ) → every ∣ common → 0 < every → units ≤ 1000000001000000 → units * (common / every) ≤ 1000000001000000 * common
 more_small units every common d some few =
     let e = mul-div_cancel' every {m = common} d in
     let once = mul-le 1 (common / every) every (common / every) some (omega arith) in
-    let times = mul-le units (common / every) 1000000 common few (omega arith) in
+    let times = mul-le units (common / every) 1000000001000000 common few (omega arith) in
     omega arith
 
 -- if the periods are too fine with one source more, they are too fine with all

@@ -2,17 +2,22 @@
 use Rattle.std.proofs.Common.{◌≡◌, ◌≢◌, ℕ, zero, suc, ◌+◌, ◌≤◌, ◌<◌, true, false, eqb, List, [], ◌∷◌, length, map, take, get_or, arith, refl, sym, ap, ◌∙◌, inl}
 use Rattle.std.proofs.Common.{inr, Some}
 use Rattle.std.specs.Prelude.{slice_get, option_map, max, if◌then◌else◌}
-use Rattle.std.specs.List.{AllByRecursion, filter, fold}
+use Rattle.std.specs.List.{All, AllByRecursion, filter, fold}
 use Rattle.std.proofs.lemmas.Bool.{cases_Bool, cases_lt}
 use Rattle.std.proofs.lemmas.Bool.Decides.{nat_tests}
+use Rattle.std.proofs.lemmas.List.Elements.{All-nil, All-cons, All-weaker}
+use Rattle.std.proofs.lemmas.Nat.{mul-le}
 use Rattle.std.proofs.lemmas.Option.{slice_get-map}
 use Rattle.cbs_rate.specs.Rate.{Rate}
-use Rattle.cbs_guarantee.specs.Sources.{stream_of, streams_of}
+use Rattle.cbs_rate.specs.Limits.{longest_period}
+use Rattle.cbs_guarantee.specs.Sources.{ticks_of, stream_of, streams_of}
+use Rattle.cbsrun_loads.specs.Loads.{IsSource}
 use Rattle.cbsrun_simulate.specs.Releases.{IsInOrder}
 use Rattle.cbsrun_simulate.specs.Merging.{order_from}
 use Rattle.cbsrun_simulate.specs.declared.release.Release.{Release}
 use Rattle.cbsrun_simulate.specs.declared.terms.SourceTerms.{SourceTerms}
-use Rattle.cbsrun_sizing.specs.ServerLoads.{held, at_most, sources_of}
+use Rattle.cbsrun_sizing.specs.Asked.{most_ticks}
+use Rattle.cbsrun_sizing.specs.ServerLoads.{held, at_most, sources_of, AreShort}
 use Rattle.cbsrun_sizing.proofs.KeptMoves.{AreNumbered}
 
 module _ (s : ℕ) where
@@ -212,3 +217,25 @@ module _ (s : ℕ) where
               let b : (i : ℕ) → of (k + i) ≡ get_or (map (λ (r : Release). place r.source) (own_releases rs)) i 0 = rw n at places in
               rw n (λ same. absurd (ne same), numbered released of place k rs a b)
         ]
+
+-- a job of a source of a load takes at most so many ticks
+pub own_ticks : (n s : ℕ) (sources : List SourceTerms) → All (IsSource n) sources → All (λ source. ticks_of source ≤ most_ticks) (sources_of s sources)
+own_ticks n s [] all = All-nil (λ source. ticks_of source ≤ most_ticks)
+own_ticks n s (t ∷ ts) all =
+    let rest = own_ticks n s ts (λ k d lt. all (suc k) d (omega arith)) in
+    elim (cases_Bool (eqb t.server s)) [
+      | inl y ↦ rw y (All-cons (λ source. ticks_of source ≤ most_ticks) (at_most t) (sources_of s ts) (few_ticks t (all 0 t (omega arith))) rest)
+      | inr f ↦ rw f rest
+    ]
+  where
+    few_ticks : (t : SourceTerms) → IsSource n t → ticks_of (at_most t) ≤ most_ticks
+    few_ticks t is =
+        let units = is.lawful.few_units in
+        let short = is.short in
+        let u : held t.units.greatest ≤ 1000000 = omega arith in
+        let o : 1 + held t.overrun.greatest ≤ 1000000001 = omega arith in
+        mul-le (held t.units.greatest) (1 + held t.overrun.greatest) 1000000 1000000001 u o
+
+-- no unit of a load overruns by more than the longest period
+pub are_short : (n : ℕ) (sources : List SourceTerms) → All (IsSource n) sources → AreShort sources
+are_short n sources all = All-weaker (IsSource n) (λ t. t.overrun.greatest ≤ longest_period) (λ t is. is.short) sources all

@@ -1,20 +1,29 @@
 -- The demand of the sources of each server of a load, and within how many ticks their jobs are finished.
-use Rattle.std.specs.Prelude.{◌≡◌, ℕ, ◌+◌, ◌-◌, ◌<◌, eqb, if◌then◌else◌, min, max, List, length, map, get_or, MatchOption, None}
+use Rattle.std.specs.Prelude.{◌≡◌, ℕ, ◌+◌, ◌-◌, ◌<◌, eqb, if◌then◌else◌, min, max, List, length, map, get_or, MatchOption, MatchResult, Option, Some, None, Ok, All, ◌≤◌}
 use Rattle.std.specs.List.{sum, filter, fold, range_with_len}
-use Rattle.cbs_rate.specs.Limits.{greatest_number}
+use Rattle.cbs_rate.specs.Limits.{greatest_number, longest_period}
+use Rattle.cbs_rate.specs.Plan.{Planned, IsGreatestBudget}
 use Rattle.cbs_rate.specs.Rate.{Rate}
 use Rattle.cbs_guarantee.specs.Parts.{rate_at}
 use Rattle.cbs_guarantee.specs.Sources.{IsPromised, IsReason}
-use Rattle.cbs_guarantee.specs.declared.source.NotPromised.{NotPromised}
 use Rattle.cbs_guarantee.specs.declared.source.Source.{Source}
 use Rattle.cbsrun_loads.specs.Loads.{LoadFile}
+use Rattle.cbsrun_proposals.specs.Proposals.{IsEnough, IsRemedy}
+use Rattle.cbsrun_proposals.specs.declared.remedy.Proposal.{Proposal}
+use Rattle.cbsrun_proposals.specs.declared.remedy.Remedy.{Remedy}
+use Rattle.cbsrun_proposals.specs.declared.wanted.Wanted.{Wanted}
 use Rattle.cbsrun_simulate.specs.declared.terms.SourceTerms.{SourceTerms}
 use Rattle.cbsrun_sizing.specs.Asked.{IsAsked, AreTooFine}
+use Rattle.cbsrun_sizing.specs.Budgets.{without}
 use Rattle.cbsrun_sizing.specs.declared.server_load.ServerLoad.{ServerLoad}
 
 -- a number as 32 bits hold it: at most 2^32 - 1
 abbrev pub held : ℕ → ℕ
 held n = min n greatest_number
+
+-- no unit of a source overruns by more than the longest period
+abbrev pub AreShort : List SourceTerms → Type 0
+AreShort sources = All (λ t. t.overrun.greatest ≤ longest_period) sources
 
 -- a source at its greatest demand: the most units, the least ticks from one job to the next, and the greatest overrun
 -- of a unit
@@ -46,21 +55,44 @@ most_passed sources s = fold (λ most t. if eqb t.server s then most else max mo
 abbrev pub delay_from_release : LoadFile → ℕ → ℕ
 delay_from_release f s = delay_of f s + most_passed f.sources s
 
--- for some reason, nothing is promised for the sources
-abbrev pub IsNotPromised : Rate → List Source → ℕ → ℕ → Type 0
-IsNotPromised server sources delay backlog = (why : NotPromised) × IsReason server sources delay backlog why
+-- the lesser of two numbers, if there are two
+abbrev pub lesser : Option ℕ → Option ℕ → Option ℕ
+lesser (Some m) (Some n) = Some (min m n)
+lesser (Some m) None = Some m
+lesser None n = n
+
+-- the least number of ticks within which a source of server s wants its jobs finished, if it has a source
+abbrev pub least_within : List SourceTerms → ℕ → Option ℕ
+least_within sources s = fold (λ least t. if eqb t.server s then lesser least t.within else least) None sources
+
+-- what the jobs of server s have to live with, and by when they have to be finished
+abbrev pub wanted_of : LoadFile → ℕ → Wanted
+wanted_of f s = record { delay = delay_from_release f s; backlog = f.backlog; within = least_within f.sources s }
+
+-- the proposal of a remedy, if there is one
+abbrev pub proposed : Option Remedy → Option Proposal
+proposed None = None
+proposed (Some m) = m.reservation
+
+-- the greatest budget that fits at the period of a proposal beside all servers but s, and 0 if there is no proposal
+abbrev pub IsRoomFor : Planned → ℕ → Option Proposal → ℕ → Type 0
+IsRoomFor plan s proposal room = MatchOption proposal (room ≡ 0) (λ p. IsGreatestBudget (without plan s) p.period room)
 
 -- The figures of server s. `asked` is the demand of its sources, if that can be summed. `promised` is within how many
--- ticks of its release each of their jobs is finished, if that is promised.
+-- ticks of its release each of their jobs is finished, or why that is not promised. `remedy` is what would do, if its
+-- reservation does not, and `room` what fits at the remedy's period.
 pub record IsServerLoad (f : LoadFile) (s : ℕ) (l : ServerLoad) : Type 0 where
-  pub asked : MatchOption l.asked (AreTooFine (sources_of s f.sources)) (IsAsked (sources_of s f.sources))
-  pub promised : MatchOption l.promised
-      (IsNotPromised (rate_at f.plan.rates s) (sources_of s f.sources) (delay_from_release f s) f.backlog)
-      (IsPromised (rate_at f.plan.rates s) (sources_of s f.sources) (delay_from_release f s) f.backlog)
+  pub asked : let own = sources_of s f.sources in MatchOption l.asked (AreTooFine own) (IsAsked own)
+  pub promised : let own = sources_of s f.sources in
+      MatchResult l.promised (IsPromised (rate_at f.plan.rates s) own (delay_from_release f s) f.backlog)
+      (IsReason (rate_at f.plan.rates s) own (delay_from_release f s) f.backlog)
+  pub remedy : let own = sources_of s f.sources in
+      MatchOption l.remedy (IsEnough own (wanted_of f s) (rate_at f.plan.rates s)) (IsRemedy own (wanted_of f s) (rate_at f.plan.rates s))
+  pub room : IsRoomFor f.plan s (proposed l.remedy) l.room
 
 -- what stands for a server that does not exist
 abbrev pub no_load : ServerLoad
-no_load = record { asked = None; promised = None }
+no_load = record { asked = None; promised = Ok 0; remedy = None; room = 0 }
 
 -- the figures of each of the first n servers
 pub record AreServerLoads (f : LoadFile) (n : ℕ) (loads : List ServerLoad) : Type 0 where

@@ -1,9 +1,9 @@
 //! The demand of sources, all together.
 
 ghost use Rattle.std.specs.Prelude.{◌+◌, ◌*◌, ◌/◌, ◌≤◌, ◌<◌, length, All, MatchOption, IfSome};
-ghost use Rattle.cbs_rate.specs.Limits.{most_units};
+ghost use Rattle.cbs_guarantee.specs.Sources.{ticks_of};
 ghost use Rattle.cbsrun_loads.specs.Loads.{most_sources};
-ghost use Rattle.cbsrun_sizing.specs.Asked.{IsAsked, AreTooFine, IsJoined, IsJoinedTooFine};
+ghost use Rattle.cbsrun_sizing.specs.Asked.{most_ticks, IsAsked, AreTooFine, IsJoined, IsJoinedTooFine};
 
 use crate::divisor::greatest_common_divisor;
 use cbs_guarantee::Source;
@@ -23,11 +23,11 @@ impl Asked {
     /// is within [`MAX_COMMON_MULTIPLE`].
     fn with(self, source: &Source) -> Option<Asked>
         requires some { 0 < self.of }
-        requires units { source.now.units ≤ most_units }
-        requires small { self.ticks ≤ most_sources * (most_units * self.of) }
+        requires ticks { ticks_of source.now ≤ most_ticks }
+        requires small { self.ticks ≤ most_sources * (most_ticks * self.of) }
         ensures joined { MatchOption result (IsJoinedTooFine self source.now)
             (IsJoined self source.now) }
-        ensures small { IfSome result (λ a. a.ticks ≤ self.ticks * (a.of / self.of) + most_units *
+        ensures small { IfSome result (λ a. a.ticks ≤ self.ticks * (a.of / self.of) + most_ticks *
             a.of) }
     {
         let of = u128::from(self.of);
@@ -39,7 +39,8 @@ impl Asked {
         if common > u128::from(MAX_COMMON_MULTIPLE) {
             return None;
         }
-        let ticks = self.ticks * (common / of) + u128::from(source.units) * (common / every);
+        let job = u128::from(source.units) * (1 + u128::from(source.overrun));
+        let ticks = self.ticks * (common / of) + job * (common / every);
         Some(Asked {
             ticks,
             of: common as u64,
@@ -51,7 +52,7 @@ impl Asked {
 /// within [`MAX_COMMON_MULTIPLE`].
 pub(crate) fn asked_by(sources: &[Source]) -> Option<Asked>
     requires few { length sources.now ≤ most_sources }
-    requires units { All (λ source. source.units ≤ most_units) sources.now }
+    requires ticks { All (λ source. ticks_of source ≤ most_ticks) sources.now }
     ensures { MatchOption result (AreTooFine sources.now) (IsAsked sources.now) }
 {
     let mut asked = Asked { ticks: 0, of: 1 };

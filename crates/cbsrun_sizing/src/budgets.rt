@@ -1,7 +1,7 @@
 //! The greatest budget that each server could have.
 
 ghost use Rattle.std.specs.Prelude.{◌≡◌, IfOk, OnOk, length};
-ghost use Rattle.cbs_rate.specs.Plan.{IsPlan};
+ghost use Rattle.cbs_rate.specs.Plan.{IsPlan, IsGreatestBudget};
 ghost use Rattle.cbsrun_sizing.specs.Budgets.{without, AreGreatest};
 
 use cbs_rate::Plan;
@@ -21,6 +21,14 @@ fn without(plan: &Plan, server: u16) -> Plan
     others
 }
 
+/// Returns the greatest budget that a server of a plan could have at this period, if all others stay as they are, or 0 if
+/// it could have none.
+pub fn greatest_budget_at(plan: &Plan, server: u16, period: u64) -> u64
+    ensures { IsGreatestBudget (without plan.now server) period result }
+{
+    without(plan, server).greatest_budget(period)
+}
+
 /// Returns, for each server of a plan, the greatest budget that it could have at its period, if all others stay as they
 /// are. The only error is out of memory.
 pub fn greatest_budgets(alloc: Global, plan: &Plan) -> Result<Vec<u64>, AllocError>
@@ -32,7 +40,7 @@ pub fn greatest_budgets(alloc: Global, plan: &Plan) -> Result<Vec<u64>, AllocErr
     let mut budgets = Vec::with_capacity(alloc, usize::from(servers))?;
     for server in 0..servers {
         let period = plan.get(server).unwrap().period();
-        budgets.push(without(plan, server).greatest_budget(period))?;
+        budgets.push(greatest_budget_at(plan, server, period))?;
     }
     Ok(budgets)
 }

@@ -11,9 +11,9 @@ mod server_load;
 mod shares;
 
 pub use asked::Asked;
-pub use budgets::greatest_budgets;
+pub use budgets::{greatest_budget_at, greatest_budgets};
 pub use divisor::greatest_common_divisor;
 pub use lateness::greatest_delay;
 pub use recoveries::recovery;
-pub use server_load::{ServerLoad, server_loads};
+pub use server_load::{ServerLoad, least_within, server_loads};
 pub use shares::{is_within, left_over};

@@ -1,14 +1,15 @@
 //! The figures of the sources of each server of a load.
 
-ghost use Rattle.std.specs.Prelude.{◌≡◌, ◌+◌, ◌≤◌, ◌<◌, length, All, IfOk, MatchOption};
-ghost use Rattle.cbs_rate.specs.Limits.{most_units};
-ghost use Rattle.cbs_guarantee.specs.Sources.{IsPromised};
-ghost use Rattle.cbsrun_sizing.specs.ServerLoads.{held, at_most, sources_of, most_charged, all_charges, most_passed, IsNotPromised, IsServerLoad, AreServerLoads};
+ghost use Rattle.std.specs.Prelude.{◌≡◌, ◌*◌, ◌≤◌, ◌<◌, length, IfOk};
+ghost use Rattle.cbs_rate.specs.Limits.{longest_period};
+ghost use Rattle.cbsrun_sizing.specs.ServerLoads.{held, at_most, sources_of, most_charged, all_charges, most_passed, lesser, least_within, wanted_of, proposed, AreShort, IsRoomFor, IsServerLoad, AreServerLoads};
 
 use crate::asked::{Asked, asked_by};
-use cbs_guarantee::{MAX_DELAY, Source, guaranteed};
-use cbs_rate::Reservation;
+use crate::budgets::greatest_budget_at;
+use cbs_guarantee::{NotPromised, Source, guaranteed};
+use cbs_rate::{Plan, Reservation};
 use cbsrun_loads::Load;
+use cbsrun_proposals::{Proposal, Remedy, Wanted, remedy_for};
 use cbsrun_simulate::SourceTerms;
 use std::alloc::{AllocError, Global};
 
@@ -18,9 +19,14 @@ pub struct ServerLoad {
     /// The greatest demand of the sources, all together, if it can be summed exactly.
     pub asked: Option<Asked>,
     /// Within how many ticks of its release each of their jobs is finished, whatever the other servers are asked for,
-    /// if that is promised. A charge of another server may pass a release, so that its job is submitted later: these
-    /// ticks count, too.
-    pub promised: Option<u64>,
+    /// or why that is not promised. A charge of another server may pass a release, so that its job is submitted later:
+    /// these ticks count, too.
+    pub promised: Result<u64, NotPromised>,
+    /// What would do, if the jobs are not promised within the ticks that each source wants.
+    pub remedy: Option<Remedy>,
+    /// The greatest budget that fits at the period of the remedy's reservation, beside all other servers, or 0 if there is
+    /// no such reservation.
+    pub room: u64,
 }
 
 /// Returns the number, or 2^32 - 1 if the number is greater.
@@ -47,10 +53,8 @@ fn sources_of(
     sources: &[SourceTerms],
     server: u16,
 ) -> Result<Vec<Source>, AllocError>
-    requires { All (λ terms. terms.units.greatest ≤ most_units) sources.now }
     ensures value { IfOk result (λ own. own.items ≡ sources_of server sources.now) }
     ensures few { IfOk result (λ own. length own.items ≤ length sources.now) }
-    ensures units { IfOk result (λ own. All (λ source. source.units ≤ most_units) own.items) }
 {
     let mut own = Vec::new(alloc);
     for terms in sources {
@@ -63,7 +67,9 @@ fn sources_of(
 
 /// Returns the most ticks that a server is charged for one unit: the greatest overrun of its sources.
 pub(crate) fn most_charged(sources: &[SourceTerms], server: u16) -> u64
-    ensures { result ≡ most_charged sources.now server }
+    requires { AreShort sources.now }
+    ensures value { result ≡ most_charged sources.now server }
+    ensures short { result ≤ longest_period }
 {
     let mut most = 0;
     for terms in sources {
@@ -75,12 +81,14 @@ pub(crate) fn most_charged(sources: &[SourceTerms], server: u16) -> u64
 }
 
 /// Returns the sum of the most ticks that each server is charged for one unit.
-pub(crate) fn all_charges(sources: &[SourceTerms], servers: u16) -> u128
-    ensures { result ≡ all_charges sources.now servers }
+pub(crate) fn all_charges(sources: &[SourceTerms], servers: u16) -> u64
+    requires { AreShort sources.now }
+    ensures value { result ≡ all_charges sources.now servers }
+    ensures short { result ≤ servers * longest_period }
 {
     let mut charges = 0;
     for server in 0..servers {
-        charges += u128::from(most_charged(sources, server));
+        charges += most_charged(sources, server);
     }
     charges
 }
@@ -88,7 +96,9 @@ pub(crate) fn all_charges(sources: &[SourceTerms], servers: u16) -> u128
 /// Returns the most ticks by which a charge of another server may pass a release for this one: the greatest overrun of
 /// the other servers' sources.
 fn most_passed(sources: &[SourceTerms], server: u16) -> u64
-    ensures { result ≡ most_passed sources.now server }
+    requires { AreShort sources.now }
+    ensures value { result ≡ most_passed sources.now server }
+    ensures short { result ≤ longest_period }
 {
     let mut passed = 0;
     for terms in sources {
@@ -99,24 +109,65 @@ fn most_passed(sources: &[SourceTerms], server: u16) -> u64
     passed
 }
 
-/// Returns within how many ticks of its release each job of a server's sources is finished, or `None` if that is not
-/// promised. The other servers delay this one by at most `charged` ticks, and a release by at most `passed`.
-fn promised(
-    server: Reservation,
-    sources: &[Source],
-    charged: u128,
-    passed: u64,
-    backlog: u64,
-) -> Option<u64>
-    ensures { MatchOption result (IsNotPromised server sources.now (charged + passed) backlog)
-        (IsPromised server sources.now (charged + passed) backlog) }
+/// Returns the least number of ticks within which a source of the server wants its jobs finished, or `None` if it has no
+/// source.
+pub fn least_within(sources: &[SourceTerms], server: u16) -> Option<u64>
+    ensures { result ≡ least_within sources.now server }
 {
-    if charged > u128::from(MAX_DELAY) || passed > MAX_DELAY {
-        return None;
+    let mut least = None;
+    for terms in sources {
+        if terms.server == server {
+            least = lesser(least, terms.within);
+        }
     }
-    match guaranteed(server, sources, charged as u64 + passed, backlog) {
-        Ok(within) => Some(within),
-        Err(_) => None,
+    least
+}
+
+/// Returns the lesser of two numbers, if there are two.
+fn lesser(one: Option<u64>, other: Option<u64>) -> Option<u64>
+    ensures { result ≡ lesser one other }
+{
+    match (one, other) {
+        (Some(one), Some(other)) => Some(one.min(other)),
+        (Some(one), None) => Some(one),
+        (None, other) => other,
+    }
+}
+
+/// Returns what the jobs of a server have to live with. `charges` is the sum of the most ticks that each server is
+/// charged for one unit.
+fn wanted_of(load: &Load, server: u16, charges: u64) -> Wanted
+    requires charges { charges ≡ all_charges load.now.sources (length load.now.plan.rates) }
+    requires short { charges ≤ 65535 * longest_period }
+    ensures { result ≡ wanted_of load.now server }
+{
+    let sources = load.sources();
+    let charged = charges.saturating_sub(most_charged(sources, server));
+    Wanted {
+        delay: charged + most_passed(sources, server),
+        backlog: load.backlog(),
+        within: least_within(sources, server),
+    }
+}
+
+/// Returns the proposal of a remedy, if there is one.
+fn proposed(remedy: Option<Remedy>) -> Option<Proposal>
+    ensures { result ≡ proposed remedy }
+{
+    match remedy {
+        Some(remedy) => remedy.reservation,
+        None => None,
+    }
+}
+
+/// Returns the greatest budget that fits at the period of a proposal, beside all other servers of a plan, or 0 if there
+/// is no proposal.
+fn room_for(plan: &Plan, server: u16, proposal: Option<Proposal>) -> u64
+    ensures { IsRoomFor plan.now server proposal result }
+{
+    match proposal {
+        Some(proposal) => greatest_budget_at(plan, server, proposal.period),
+        None => 0,
     }
 }
 
@@ -126,20 +177,22 @@ fn server_load(
     alloc: Global,
     load: &Load,
     server: u16,
-    charges: u128,
+    charges: u64,
 ) -> Result<ServerLoad, AllocError>
     requires server { server < length load.now.plan.rates }
     requires charges { charges ≡ all_charges load.now.sources (length load.now.plan.rates) }
+    requires short { charges ≤ 65535 * longest_period }
     ensures { IfOk result (IsServerLoad load.now server) }
 {
-    let sources = load.sources();
-    let reservation = load.plan().get(server).unwrap();
-    let own = sources_of(alloc, sources, server)?;
-    let charged = charges.saturating_sub(u128::from(most_charged(sources, server)));
-    let passed = most_passed(sources, server);
+    let reservation: Reservation = load.plan().get(server).unwrap();
+    let own = sources_of(alloc, load.sources(), server)?;
+    let wanted = wanted_of(load, server, charges);
+    let remedy = remedy_for(reservation, &own, wanted);
     Ok(ServerLoad {
         asked: asked_by(&own),
-        promised: promised(reservation, &own, charged, passed, load.backlog()),
+        promised: guaranteed(reservation, &own, wanted.delay, wanted.backlog),
+        remedy,
+        room: room_for(load.plan(), server, proposed(remedy)),
     })
 }
 

@@ -1,6 +1,8 @@
 //! The figures of a robot's load, worked out by hand.
 
+use cbs_guarantee::NotPromised;
 use cbsrun_loads::read_load;
+use cbsrun_proposals::{Proposal, Remedy};
 use cbsrun_sizing::{
     Asked, ServerLoad, greatest_budgets, greatest_common_divisor, greatest_delay, recovery,
     server_loads,
@@ -58,18 +60,29 @@ fn numbers_of_a_robot(rt: HostRuntime) {
         .expect(&rt, "memory");
     assert!(rt; budgets[..] == [3, 14, 5]);
     let loads = server_loads(alloc, &load).ok().expect(&rt, "memory");
-    // the others are charged 7 ticks, and a charge passes a release by 7
+    // the others are charged 7 ticks, and a charge passes a release by 7: longer than any of them wants to wait
+    let none = Remedy {
+        backlog: None,
+        reservation: None,
+    };
     let control = ServerLoad {
         asked: Some(Asked { ticks: 1, of: 12 }),
-        promised: Some(19),
+        promised: Ok(19),
+        remedy: Some(none),
+        room: 0,
     };
     let vision = ServerLoad {
         asked: Some(Asked { ticks: 30, of: 120 }),
-        promised: Some(54),
+        promised: Ok(54),
+        remedy: Some(none),
+        room: 0,
     };
+    // 5 units of 8 ticks, every 4 ticks
     let logging = ServerLoad {
-        asked: Some(Asked { ticks: 5, of: 4 }),
-        promised: None,
+        asked: Some(Asked { ticks: 40, of: 4 }),
+        promised: Err(NotPromised::AsksTooMuch),
+        remedy: Some(none),
+        room: 0,
     };
     assert!(rt; loads[..] == [control, vision, logging]);
     // nobody else delays logging, which delays both others
@@ -133,4 +146,70 @@ fn the_greatest_delay(rt: HostRuntime) {
 fn a_common_divisor(rt: HostRuntime) {
     assert!(rt; greatest_common_divisor(84, 120) == 12);
     assert!(rt; greatest_common_divisor(0, 7) == 7);
+}
+
+/// Two servers. The jobs of the first want to be finished in 50 ticks, and have no room for a second unfinished one.
+const BATCHES: &str = "\
+load = 1
+bound = [1, 1]
+backlog = 1
+until = 200
+[[server]]
+name = \"batches\"
+mode = \"soft\"
+budget = 20
+period = 1000
+[[source]]
+server = \"batches\"
+every = [50, 400]
+units = [1, 30]
+within = 50
+[[server]]
+name = \"twice\"
+mode = \"soft\"
+budget = 1
+period = 10
+[[source]]
+server = \"twice\"
+every = 40
+units = 1
+within = 30
+[[source]]
+server = \"twice\"
+every = 40
+units = 1
+within = 30
+";
+
+#[test]
+fn remedies(rt: HostRuntime) {
+    let alloc = rt.alloc();
+    let load = read_load(alloc, BATCHES.as_bytes())
+        .ok()
+        .expect(&rt, "a load");
+    let loads = server_loads(alloc, &load).ok().expect(&rt, "memory");
+    // 30 ticks in 50: with one tick less, 2 periods of 25 at most are needed, and 15 in 25 is as much. Of 50 ticks the
+    // other has 5.
+    assert!(rt; loads[0].promised == Err(NotPromised::AsksTooMuch));
+    assert!(rt;
+        loads[0].remedy
+            == Some(Remedy {
+                backlog: None,
+                reservation: Some(Proposal {
+                    budget: 30,
+                    period: 50
+                }),
+            })
+    );
+    assert!(rt; loads[0].room == 45);
+    // a job of each source may be unfinished, whatever the reservation
+    assert!(rt; loads[1].promised == Err(NotPromised::BacklogTooSmall { needed: 2 }));
+    assert!(rt;
+        loads[1].remedy
+            == Some(Remedy {
+                backlog: Some(2),
+                reservation: None,
+            })
+    );
+    assert!(rt; loads[1].room == 0);
 }

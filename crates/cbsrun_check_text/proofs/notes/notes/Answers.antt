@@ -25,8 +25,10 @@ loop-server-preserved c =
     let rate = get_or_from_slice_get f.plan.rates s c.unwrap-rate.result (record { budget = 0; period = 0 })
     (rw c.plan-plan.ensures at (sym c.get.ensures.value ∙ c.unwrap-rate.ensures)) in
     let load : get_or loads s no_load ≡ get_or loads place no_load = rw c.from-at.ensures refl in
-    note_more f.names f.plan.rates loads s (string_bytes c.loop-server.text) (string_bytes c.append_note.new.text) c.as_str.result.now c.unwrap-rate.result
-    (get_or loads place no_load) c.in_ok-append_note.ensures c.loop-server.invariant (rw c.names-names.ensures.value at name) rate load
+    let within = rw c.sources.ensures.value at c.least_within-within.ensures in
+    note_more f loads s (string_bytes c.loop-server.text) (string_bytes c.append_note.new.text) c.as_str.result.now c.unwrap-rate.result
+    c.least_within-within.result (get_or loads place no_load) (rw c.backlog.ensures.value at c.in_ok-append_note.ensures) c.loop-server.invariant
+    (rw c.names-names.ensures.value at name) rate within load
 
 pub loop-server-init : goal.loop-server-init
 loop-server-init c = grind (arith, common_steps)

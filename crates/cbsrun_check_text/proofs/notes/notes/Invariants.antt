@@ -4,4 +4,4 @@ use Rattle.cbsrun_check_text.specs.Notes.{note_at}
 use Rattle.cbsrun_check_text.proofs.notes.notes.Given as goal
 
 abbrev pub invariant-loop-server : goal.invariant-loop-server
-invariant-loop-server l = string_bytes l.text ≡ flat_map (note_at l.load.names l.load.plan.rates l.loads) (range_with_len 0 l.server)
+invariant-loop-server l = string_bytes l.text ≡ flat_map (note_at l.load l.loads) (range_with_len 0 l.server)

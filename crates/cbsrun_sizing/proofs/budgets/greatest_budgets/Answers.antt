@@ -1,16 +1,17 @@
-use Rattle.std.proofs.Common.{◌≡◌, ◌++◌, ◌∷◌, [], rules, sym, ◌∙◌, arith}
+use Rattle.std.proofs.Common.{◌≡◌, ◌++◌, ◌∷◌, [], rules, refl, sym, ◌∙◌, arith}
 use Rattle.std.proofs.lemmas.Grind.{common_steps}
+use Rattle.cbsrun_sizing.specs.Budgets.{without}
 use Rattle.cbsrun_sizing.proofs.Greatest.{greatest_more, greatest_for}
 use Rattle.cbsrun_sizing.proofs.budgets.greatest_budgets.Goals as goal
 
 pub loop-server-preserved : goal.loop-server-preserved
 loop-server-preserved c =
     let plan = c.args.plan.now in
-    let budget = c.greatest_budget.result in
+    let budget = c.greatest_budget_at.result in
     let pushed : c.push.new.self.items ≡ c.loop-server.budgets.items ++ budget ∷ [] = search (rules, common_steps) in
     rw pushed (greatest_more plan c.loop-server.server c.loop-server.budgets.items budget c.loop-server.invariant
-    (greatest_for plan c.without.result c.loop-server.server budget c.period-period.result c.unwrap.result c.without.ensures
-    (sym c.get.ensures.value ∙ c.unwrap.ensures) c.period-period.ensures.value c.greatest_budget.ensures))
+    (greatest_for plan (without plan c.loop-server.server) c.loop-server.server budget c.period-period.result c.unwrap.result refl
+    (sym c.get.ensures.value ∙ c.unwrap.ensures) c.period-period.ensures.value c.greatest_budget_at.ensures))
 
 pub loop-server-init : goal.loop-server-init
 loop-server-init c = grind (arith, common_steps)

@@ -12,9 +12,8 @@ loop-server-preserved c =
     let s = c.loop-server.server in
     let delay : c.saturating_sub-delay.result ≡ delay_of f s = rw (
       c.saturating_sub-delay.ensures,
-      c.all_charges-charges.ensures,
-      c.from.ensures,
-      c.most_charged.ensures,
+      c.all_charges-charges.ensures.value,
+      c.most_charged.ensures.value,
       c.sources-sources.ensures.value,
       c.len-servers.ensures.value,
       c.plan.ensures,

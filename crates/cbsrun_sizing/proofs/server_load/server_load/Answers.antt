@@ -1,7 +1,14 @@
-use Rattle.std.proofs.Common.{◌≡◌, sym, ◌∙◌}
+use Rattle.std.proofs.Common.{◌≡◌, sym, ◌∙◌, length}
 use Rattle.std.proofs.lemmas.Option.{get_or_from_slice_get}
 use Rattle.cbs_guarantee.specs.Parts.{rate_at}
+use Rattle.cbsrun_sizing.proofs.OwnSources.{own_ticks}
 use Rattle.cbsrun_sizing.proofs.server_load.server_load.Goals as goal
+
+pub asked_by-requires-clause-ticks : goal.asked_by-requires-clause-ticks
+asked_by-requires-clause-ticks c =
+    let f = c.args.load.now in
+    rw (c.deref-2.ensures.value, c.in_ok-own.ensures.value, c.sources.ensures.value)
+    (own_ticks (length f.plan.rates) c.args.server f.sources c.sources.ensures.lawful.lawful)
 
 pub returns : goal.returns
 returns c =
@@ -9,17 +16,8 @@ returns c =
     let is : c.unwrap-reservation.result ≡ rate_at c.args.load.now.plan.rates c.args.server =
     sym (get_or_from_slice_get c.args.load.now.plan.rates c.args.server c.unwrap-reservation.result (record { budget = 0; period = 0 }) here) in
     record {
-      asked = rw (c.deref.ensures.value, c.in_ok-own.ensures.value, c.sources-sources.ensures.value) at c.asked_by.ensures;
-      promised = rw (
-        is,
-        c.deref-2.ensures.value,
-        c.in_ok-own.ensures.value,
-        c.saturating_sub-charged.ensures,
-        c.requires.charges,
-        c.from.ensures,
-        c.most_charged.ensures,
-        c.most_passed-passed.ensures,
-        c.sources-sources.ensures.value,
-        c.backlog.ensures.value,
-      ) at c.promised.ensures;
+      asked = rw (c.deref-2.ensures.value, c.in_ok-own.ensures.value, c.sources.ensures.value) at c.asked_by.ensures;
+      promised = rw (is, c.deref-3.ensures.value, c.in_ok-own.ensures.value, c.sources.ensures.value, c.wanted_of-wanted.ensures) at c.guaranteed.ensures;
+      remedy = rw (is, c.deref.ensures.value, c.in_ok-own.ensures.value, c.sources.ensures.value, c.wanted_of-wanted.ensures) at c.remedy_for-remedy.ensures;
+      room = rw (c.proposed.ensures, c.plan-2.ensures) at c.room_for.ensures;
     }

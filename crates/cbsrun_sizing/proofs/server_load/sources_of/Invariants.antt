@@ -1,6 +1,4 @@
 use Rattle.std.proofs.Common.{◌≡◌, ◌≤◌, length, take}
-use Rattle.std.specs.List.{All}
-use Rattle.cbs_rate.specs.Limits.{most_units}
 use Rattle.cbsrun_sizing.specs.ServerLoads.{sources_of}
 use Rattle.cbsrun_sizing.proofs.server_load.sources_of.Given as goal
 
@@ -8,5 +6,4 @@ abbrev pub invariant-loop-terms : goal.invariant-loop-terms
 invariant-loop-terms l = record {
   value : l.own.items ≡ sources_of l.server (take l.terms-index l.sources);
   few : length l.own.items ≤ l.terms-index;
-  units : All (λ source. source.units ≤ most_units) l.own.items;
 }

@@ -1,6 +1,7 @@
-use Rattle.std.proofs.Common.{◌*◌, ◌/◌, ◌≤◌, arith}
+use Rattle.std.proofs.Common.{◌+◌, ◌*◌, ◌/◌, ◌≤◌, arith}
 use Rattle.std.proofs.lemmas.Nat.Gcd.{le_of_dvd}
 use Rattle.cbs_rate.proofs.Multiples.{some_from_dvd}
+use Rattle.cbsrun_sizing.specs.Asked.{most_ticks}
 use Rattle.cbsrun_sizing.proofs.Joins.{divisor_some, first_dvd, second_dvd, multiple_dvd, joined_self, before_small, more_small}
 use Rattle.cbsrun_sizing.proofs.asked.Asked.with.Goals as goal
 
@@ -32,7 +33,8 @@ overflow_add-ticks c =
     let d = first_dvd c.from-of.result c.from-every.result g (omega arith) (omega arith) c.greatest_common_divisor.ensures.greatest in
     let e = second_dvd c.from-of.result c.from-every.result g (omega arith) (omega arith) c.greatest_common_divisor.ensures.greatest in
     let small = before_small c.args.self.ticks c.from-of.result (c.from-of.result / g * c.from-every.result) d (rw c.from-of.ensures c.requires.small) in
-    let more = more_small c.from-2.result c.from-every.result (c.from-of.result / g * c.from-every.result) e (omega arith) (omega arith) in
+    let few : c.from-2.result * (1 + c.from-3.result) ≤ most_ticks = rw (c.from-2.ensures, c.from-3.ensures) c.requires.ticks in
+    let more = more_small (c.from-2.result * (1 + c.from-3.result)) c.from-every.result (c.from-of.result / g * c.from-every.result) e (omega arith) few in
     omega arith
 
 pub returns-clause-joined : goal.returns-clause-joined
@@ -41,5 +43,13 @@ returns-clause-joined c =
     let coarse : c.from-of.result / g * c.from-every.result ≤ 1_000_000_000_000_000_000 = omega arith in
     let gcd = rw (c.from-of.ensures, c.from-every.ensures) at c.greatest_common_divisor.ensures.greatest in
     let scaled = rw (c.from-of.ensures, c.from-every.ensures) at c.greatest_common_divisor.ensures.scaled in
-    rw (c.from-of.ensures, c.from-every.ensures, c.from-2.ensures) (joined_self c.args.self c.args.source.now g c.requires.some (omega arith)
+    rw (c.from-of.ensures, c.from-every.ensures, c.from-2.ensures, c.from-3.ensures) (joined_self c.args.self c.args.source.now g c.requires.some (omega arith)
     gcd scaled (rw (c.from-of.ensures, c.from-every.ensures) at coarse))
+
+pub returns-clause-small : goal.returns-clause-small
+returns-clause-small c =
+    let g = c.greatest_common_divisor.result in
+    let e = second_dvd c.from-of.result c.from-every.result g (omega arith) (omega arith) c.greatest_common_divisor.ensures.greatest in
+    let few : c.from-2.result * (1 + c.from-3.result) ≤ most_ticks = rw (c.from-2.ensures, c.from-3.ensures) c.requires.ticks in
+    let more = more_small (c.from-2.result * (1 + c.from-3.result)) c.from-every.result (c.from-of.result / g * c.from-every.result) e (omega arith) few in
+    rw c.from-of.ensures (let m = rw c.from-of.ensures at more in omega arith)

@@ -1,0 +1,84 @@
+//! What would do for a server whose jobs are not promised in time.
+
+ghost use Rattle.std.specs.Prelude.{◌≡◌, ◌≤◌, IfSome, MatchOption, option_map};
+ghost use Rattle.cbs_rate.specs.Limits.{most_backlog};
+ghost use Rattle.cbsrun_proposals.specs.Proposals.{rate_of, IsEnough, IsRemedy};
+
+use crate::proposal::propose;
+use crate::wanted::{Wanted, is_enough};
+use cbs_core::MAX_BACKLOG;
+use cbs_guarantee::{NotPromised, Source, guaranteed};
+use cbs_rate::Reservation;
+
+/// A budget in every period, in ticks, that would do for a server.
+#[derive(Clone, Copy, PartialEq, Eq)]
+pub struct Proposal {
+    /// The budget, in ticks.
+    pub budget: u64,
+    /// The period, in ticks.
+    pub period: u64,
+}
+
+/// What would do for a server, if its reservation and its backlog do not.
+#[derive(Clone, Copy, PartialEq, Eq)]
+pub struct Remedy {
+    /// A greater backlog that is enough, if the backlog alone is too small. It is at most [`MAX_BACKLOG`].
+    pub backlog: Option<u64>,
+    /// The reservation of least share, among those that are looked at, that is enough: see
+    /// [`propose`](crate::propose).
+    pub reservation: Option<Proposal>,
+}
+
+/// Returns a backlog that is enough for a server of this reservation, if its own is too small and nothing else is
+/// amiss.
+fn greater_backlog(server: Reservation, sources: &[Source], wanted: Wanted) -> Option<u64>
+    ensures { IfSome result (λ n. (n ≤ most_backlog)
+        × IsEnough sources.now (record wanted { backlog = n }) server) }
+{
+    let Err(NotPromised::BacklogTooSmall { needed }) = guaranteed(
+        server,
+        sources,
+        wanted.delay,
+        wanted.backlog,
+    ) else {
+        return None;
+    };
+    let more = Wanted {
+        delay: wanted.delay,
+        backlog: needed,
+        within: wanted.within,
+    };
+    if needed <= MAX_BACKLOG && is_enough(server, sources, more) {
+        Some(needed)
+    } else {
+        None
+    }
+}
+
+/// Returns a reservation as a proposal.
+fn proposal_of(reservation: Option<Reservation>) -> Option<Proposal>
+    ensures { option_map rate_of result ≡ reservation }
+{
+    match reservation {
+        Some(reservation) => Some(Proposal {
+            budget: reservation.budget(),
+            period: reservation.period(),
+        }),
+        None => None,
+    }
+}
+
+/// Returns what would do for a server of this reservation with these sources, or `None` if its reservation and backlog
+/// do: then each job is promised, and in time.
+pub fn remedy_for(server: Reservation, sources: &[Source], wanted: Wanted) -> Option<Remedy>
+    ensures { MatchOption result (IsEnough sources.now wanted server)
+        (IsRemedy sources.now wanted server) }
+{
+    if is_enough(server, sources, wanted) {
+        return None;
+    }
+    Some(Remedy {
+        backlog: greater_backlog(server, sources, wanted),
+        reservation: proposal_of(propose(sources, wanted)),
+    })
+}
