@@ -138,5 +138,5 @@ pub(crate) fn append_servers(
         budgets.now)) }
 {
     let rows = rows(alloc, names, modes, plan, budgets)?;
-    append_columns(text, &rows)
+    append_columns(alloc, text, &rows)
 }

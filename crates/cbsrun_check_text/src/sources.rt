@@ -165,5 +165,5 @@ pub(crate) fn append_sources(
     }
     let rows = rows(alloc, load, loads)?;
     text.push_str("\n")?;
-    append_columns(text, &rows)
+    append_columns(alloc, text, &rows)
 }

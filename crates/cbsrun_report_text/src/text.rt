@@ -43,12 +43,12 @@ fn append_summary(text: &mut String, report: &RunReport) -> Result<(), AllocErro
 
 /// Appends an empty line and a table.
 #[tactic(auto, unfolding(crate::specs::Texts::table_text))]
-fn append_table(text: &mut String, table: &[Vec<Cell>]) -> Result<(), AllocError>
+fn append_table(alloc: Global, text: &mut String, table: &[Vec<Cell>]) -> Result<(), AllocError>
     ensures { OnOk result (string_bytes text.new ≡ string_bytes text.old
         ++ table_text (rows_of table.now)) }
 {
     text.push_str("\n")?;
-    append_columns(text, table)
+    append_columns(alloc, text, table)
 }
 
 /// Appends the table of charges, if any tick was charged.
@@ -60,7 +60,7 @@ fn append_charges(alloc: Global, text: &mut String, report: &RunReport) -> Resul
     if Total::Charged.of(&report.servers) == 0 {
         return Ok(());
     }
-    append_table(text, &charges_table(alloc, &report.servers)?)
+    append_table(alloc, text, &charges_table(alloc, &report.servers)?)
 }
 
 /// Appends the tables.
@@ -69,10 +69,10 @@ fn append_tables(alloc: Global, text: &mut String, report: &RunReport) -> Result
     ensures { OnOk result (string_bytes text.new ≡ string_bytes text.old
         ++ tables_text report.now) }
 {
-    append_table(text, &jobs_table(alloc, report)?)?;
-    append_table(text, &ticks_table(alloc, report)?)?;
-    append_table(text, &response_table(alloc, &report.servers)?)?;
-    append_table(text, &early_table(alloc, &report.servers)?)?;
+    append_table(alloc, text, &jobs_table(alloc, report)?)?;
+    append_table(alloc, text, &ticks_table(alloc, report)?)?;
+    append_table(alloc, text, &response_table(alloc, &report.servers)?)?;
+    append_table(alloc, text, &early_table(alloc, &report.servers)?)?;
     append_charges(alloc, text, report)
 }
 

@@ -1,6 +1,6 @@
 -- Rows of cells as text in columns. The first column is aligned left, and all others right. Each is as wide as its
 -- widest cell.
-use Rattle.std.specs.Prelude.{ℕ, ◌+◌, ◌-◌, Bool, false, eqb, if◌then◌else◌, max, List, [], ◌∷◌, ◌++◌, codes}
+use Rattle.std.specs.Prelude.{◌≡◌, ℕ, ◌+◌, ◌-◌, Bool, false, eqb, if◌then◌else◌, max, List, [], ◌∷◌, ◌++◌, codes}
 use Rattle.std.specs.Prelude.{flat_map, get_or, length, map, replicate, slice_get, Option, Some, None, Vec}
 use Rattle.std.specs.List.{range_with_len}
 
@@ -39,6 +39,10 @@ abbrev pub width_of : ℕ → List (List CellText) → ℕ
 width_of column [] = 0
 width_of column (row ∷ rows) = max (width_in column row) (width_of column rows)
 
+-- these are the widths of the first columns, in order
+abbrev pub AreWidths : List (List CellText) → List ℕ → Type 0
+AreWidths rows widths = widths ≡ map (λ column. width_of column rows) (range_with_len 0 (length widths))
+
 -- a text in a column of this width: aligned left in the first column, and right in all others
 abbrev pub placed : ℕ → ℕ → List ℕ → List ℕ
 placed column width text =
@@ -69,11 +73,15 @@ inner_text column width c = placed column width c.text ++ gap_after c.marked
 abbrev pub last_text : ℕ → ℕ → CellText → List ℕ
 last_text column width c = placed_last column width c.text ++ end_after c.marked
 
--- the cell of a row in a column, with the text after it
+-- the cell of a row in a column of this width, with the text after it
+abbrev pub cell_in : ℕ → List CellText → ℕ → List ℕ
+cell_in width row column =
+    if eqb (column + 1) (length row) then last_text column width (get_or row column no_cell)
+    else inner_text column width (get_or row column no_cell)
+
+-- the same, in a column as wide as its widest cell
 abbrev pub cell_text : List (List CellText) → List CellText → ℕ → List ℕ
-cell_text rows row column =
-    if eqb (column + 1) (length row) then last_text column (width_of column rows) (get_or row column no_cell)
-    else inner_text column (width_of column rows) (get_or row column no_cell)
+cell_text rows row column = cell_in (width_of column rows) row column
 
 -- a row as a line
 unfoldable pub row_text : List (List CellText) → List CellText → List ℕ

@@ -1,10 +1,10 @@
 //! Rows of cells as text in columns.
 
-ghost use Rattle.std.specs.Prelude.{◌≡◌, ◌<◌, ◌++◌, OnOk, length, string_bytes};
-ghost use Rattle.cbsrun_text.specs.Columns.{rows_of, blanks, placed, placed_last, width_in, width_of, gap_after, end_after, inner_text, last_text, cell_text, row_text, columns_text};
+ghost use Rattle.std.specs.Prelude.{◌≡◌, ◌<◌, ◌≤◌, ◌++◌, List, All, IfOk, OnOk, length, string_bytes};
+ghost use Rattle.cbsrun_text.specs.Columns.{CellText, AreWidths, rows_of, blanks, placed, placed_last, width_in, width_of, gap_after, end_after, inner_text, last_text, cell_in, row_text, columns_text};
 
 use crate::cell::Cell;
-use std::alloc::AllocError;
+use std::alloc::{AllocError, Global};
 
 /// Returns how many bytes the cell of a row in a column has, or 0 if the row ends before the column.
 fn width_in(row: &[Cell], column: usize) -> usize
@@ -25,6 +25,29 @@ fn width_of(rows: &[Vec<Cell>], column: usize) -> usize
         width = width.max(width_in(row, column));
     }
     width
+}
+
+/// Returns how many columns rows have: as many as the longest row has cells.
+fn column_count(rows: &[Vec<Cell>]) -> usize
+    ensures { All (λ row. length row.items ≤ result) rows.now }
+{
+    let mut count = 0;
+    for row in rows {
+        count = count.max(row.len());
+    }
+    count
+}
+
+/// Returns the widths of the first columns, so many. The only error is out of memory.
+fn widths_of(alloc: Global, rows: &[Vec<Cell>], count: usize) -> Result<Vec<usize>, AllocError>
+    ensures count { IfOk result (λ widths. length widths.items ≡ count) }
+    ensures widths { IfOk result (λ widths. AreWidths (rows_of rows.now) widths.items) }
+{
+    let mut widths = Vec::with_capacity(alloc, count)?;
+    for column in 0..count {
+        widths.push(width_of(rows, column))?;
+    }
+    Ok(widths)
 }
 
 /// Appends this many blanks.
@@ -115,33 +138,33 @@ fn append_last(
     text.push_str(end_after(cell.is_marked()))
 }
 
-/// Appends the cell of a row in a column, with the text after it.
+/// Appends the cell of a row in a column of this width, with the text after it.
 fn append_cell(
     text: &mut String,
-    rows: &[Vec<Cell>],
+    width: usize,
     row: &[Cell],
     column: usize,
 ) -> Result<(), AllocError>
     requires { column < length row.now }
     ensures { OnOk result (string_bytes text.new ≡ string_bytes text.old
-        ++ cell_text (rows_of rows.now) row.now column) }
+        ++ cell_in width row.now column) }
 {
     let cell = &row[column];
-    let width = width_of(rows, column);
     if column + 1 == row.len() {
         return append_last(text, column, width, cell);
     }
     append_inner(text, column, width, cell)
 }
 
-/// Appends a row as a line.
+/// Appends a row as a line, in columns of these widths.
 #[tactic(auto, unfolding(crate::specs::Columns::row_text))]
-fn append_row(text: &mut String, rows: &[Vec<Cell>], row: &[Cell]) -> Result<(), AllocError>
-    ensures { OnOk result (string_bytes text.new ≡ string_bytes text.old
-        ++ row_text (rows_of rows.now) row.now) }
+fn append_row(text: &mut String, widths: &[usize], row: &[Cell]) -> Result<(), AllocError>
+    requires { length row.now ≤ length widths.now }
+    ensures { (rows : List (List CellText)) → AreWidths rows widths.now → OnOk result
+        (string_bytes text.new ≡ string_bytes text.old ++ row_text rows row.now) }
 {
     for column in 0..row.len() {
-        append_cell(text, rows, row, column)?;
+        append_cell(text, widths[column], row, column)?;
     }
     text.push_str("\n")
 }
@@ -150,12 +173,17 @@ fn append_row(text: &mut String, rows: &[Vec<Cell>], row: &[Cell]) -> Result<(),
 /// widest cell. Two blanks are between two columns; after a marked cell the first of these is a `!`. The only error is
 /// out of memory.
 #[tactic(auto, unfolding(crate::specs::Columns::columns_text))]
-pub fn append_columns(text: &mut String, rows: &[Vec<Cell>]) -> Result<(), AllocError>
+pub fn append_columns(
+    alloc: Global,
+    text: &mut String,
+    rows: &[Vec<Cell>],
+) -> Result<(), AllocError>
     ensures { OnOk result (string_bytes text.new ≡ string_bytes text.old
         ++ columns_text (rows_of rows.now)) }
 {
+    let widths = widths_of(alloc, rows, column_count(rows))?;
     for row in rows {
-        append_row(text, rows, row)?;
+        append_row(text, &widths, row)?;
     }
     Ok(())
 }

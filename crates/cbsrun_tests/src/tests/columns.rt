@@ -35,7 +35,9 @@ fn columns_are_as_wide_as_their_widest_cell(rt: HostRuntime) {
         rows.push(row(&rt, alloc, words)).ok().expect(&rt, "memory");
     }
     let mut text = String::new(alloc);
-    append_columns(&mut text, &rows).ok().expect(&rt, "memory");
+    append_columns(alloc, &mut text, &rows)
+        .ok()
+        .expect(&rt, "memory");
     same(
         &rt,
         "rows",
@@ -56,7 +58,7 @@ fn line(alloc: Global) -> Result<String, AllocError> {
     let number = Cell::new(12u64.to_string(alloc)?).marked_if(true);
     let row = vec![in alloc; name, number]?;
     let mut text = String::new(alloc);
-    append_columns(&mut text, &vec![in alloc; row]?)?;
+    append_columns(alloc, &mut text, &vec![in alloc; row]?)?;
     Ok(text)
 }
 
