@@ -190,26 +190,27 @@ fn remedies(rt: HostRuntime) {
     let loads = server_loads(alloc, &load).ok().expect(&rt, "memory");
     // 30 ticks in 50: with one tick less, 2 periods of 25 at most are needed, and 15 in 25 is as much. Of 50 ticks the
     // other has 5.
-    assert!(rt; loads[0].promised == Err(NotPromised::AsksTooMuch));
-    assert!(rt;
-        loads[0].remedy
-            == Some(Remedy {
-                backlog: None,
-                reservation: Some(Proposal {
-                    budget: 30,
-                    period: 50
-                }),
-            })
-    );
-    assert!(rt; loads[0].room == 45);
+    let batches = ServerLoad {
+        asked: Some(Asked { ticks: 30, of: 50 }),
+        promised: Err(NotPromised::AsksTooMuch),
+        remedy: Some(Remedy {
+            backlog: None,
+            reservation: Some(Proposal {
+                budget: 30,
+                period: 50,
+            }),
+        }),
+        room: 45,
+    };
     // a job of each source may be unfinished, whatever the reservation
-    assert!(rt; loads[1].promised == Err(NotPromised::BacklogTooSmall { needed: 2 }));
-    assert!(rt;
-        loads[1].remedy
-            == Some(Remedy {
-                backlog: Some(2),
-                reservation: None,
-            })
-    );
-    assert!(rt; loads[1].room == 0);
+    let twice = ServerLoad {
+        asked: Some(Asked { ticks: 2, of: 40 }),
+        promised: Err(NotPromised::BacklogTooSmall { needed: 2 }),
+        remedy: Some(Remedy {
+            backlog: Some(2),
+            reservation: None,
+        }),
+        room: 0,
+    };
+    assert!(rt; loads[..] == [batches, twice]);
 }
