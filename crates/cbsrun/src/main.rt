@@ -79,13 +79,17 @@ fn answered<R: Threads + Clock + Sync, P: Progress, O: ByteOutput, E: ByteOutput
 {
     let name = asked.file.as_str();
     match asked.action {
-        Action::Check => check_bytes_within(alloc, memory, name, bytes, out, err),
-        Action::ReportLoad(form) => {
-            simulate_bytes_within(alloc, memory, form, name, bytes, progress, out, err)
+        Action::Check { strict } => {
+            check_bytes_within(alloc, memory, strict, name, bytes, out, err)
         }
-        Action::WriteLoadLines => simulate_lines_within(alloc, memory, name, bytes, out, err),
-        Action::DrawLoad(drawing, ticks) => draw_load_within(
-            alloc, memory, drawing, ticks, name, bytes, progress, out, err,
+        Action::ReportLoad(report) => {
+            simulate_bytes_within(alloc, memory, report, name, bytes, progress, out, err)
+        }
+        Action::WriteLoadLines(changes) => {
+            simulate_lines_within(alloc, memory, changes, name, bytes, out, err)
+        }
+        Action::DrawLoad(drawing, ticks, changes) => draw_load_within(
+            alloc, memory, drawing, ticks, changes, name, bytes, progress, out, err,
         ),
         Action::ReportTasks(form) => report_bytes_within(
             alloc, memory, form, name, bytes, out, err,
@@ -104,10 +108,12 @@ fn may_have_colours(rt: &HostRuntime) -> bool {
 
 /// Returns whether the output of an action is a text for people.
 fn is_for_people(action: Action) -> bool {
-    matches!(
-        action,
-        Action::Check | Action::ReportLoad(Form::Report) | Action::ReportTasks(Form::Report)
-    )
+    match action {
+        Action::Check { .. } => true,
+        Action::ReportLoad(report) => report.form == Form::Report,
+        Action::ReportTasks(form) => form == Form::Report,
+        _ => false,
+    }
 }
 
 /// Writes why the words of the command line make no request, and returns the status.

@@ -16,10 +16,10 @@ name_of Serve = codes "serve"
 
 -- the word of each action
 abbrev pub action_name : Action → List ℕ
-action_name action.Check = codes "check"
-action_name (action.ReportLoad form) = codes "simulate"
-action_name action.WriteLoadLines = codes "simulate"
-action_name (action.DrawLoad drawing ticks) = codes "simulate"
+action_name (action.Check strict) = codes "check"
+action_name (action.ReportLoad report) = codes "simulate"
+action_name (action.WriteLoadLines changes) = codes "simulate"
+action_name (action.DrawLoad drawing ticks changes) = codes "simulate"
 action_name (action.ReportTasks form) = codes "replay"
 action_name (action.DrawTasks drawing ticks) = codes "replay"
 action_name (action.Run verb) = name_of verb

@@ -1,5 +1,5 @@
 -- The options of a command, and what they ask for.
-use Rattle.std.specs.Prelude.{◌≡◌, ⊤, ℕ, ◌+◌, ◌<◌, ◌^◌, min, codes, MatchOption, option_map, Option, Some, None}
+use Rattle.std.specs.Prelude.{◌≡◌, ⊤, ℕ, Bool, false, ◌+◌, ◌<◌, ◌≤◌, ◌^◌, min, bytes_eq, codes, MatchOption, option_map, Option, Some, None}
 use Rattle.std.specs.Borrow.{Bor}
 use Rattle.std.specs.Str.Parse.{IsNumeral, digits_value, without_leading_plus}
 use Rattle.clap.specs.Words.{Text}
@@ -7,27 +7,44 @@ use Rattle.cbsrun_window.specs.declared.window.Window.{Window}
 use Rattle.cbsrun_command_line.specs.Actions.{action_name, drawing_name, form_name}
 use Rattle.cbsrun_command_line.specs.declared.actions.Action.{Action}
 use Rattle.cbsrun_command_line.specs.declared.actions.Action.TheVariants as action
+use Rattle.cbsrun_command_line.specs.declared.actions.Changes.{Changes}
 use Rattle.cbsrun_command_line.specs.declared.actions.Form.TheVariants.{Report}
 use Rattle.cbsrun_command_line.specs.declared.actions.Verb.TheVariants.{Replay, Serve}
+use Rattle.cbsrun_command_line.specs.declared.options.Options.{Options}
 
 -- the value of which this is true, or none if it is true of no value
 abbrev pub Finds : {A : Type 0} → Option A → (A → Type 0) → Type 0
 Finds {A} found Is = MatchOption found ((x : A) → ¬ (Is x)) Is
 
 -- the texts of the options that are given: the form of the output, the first tick to show, and the tick after the last
--- one
+-- one; the seed, and the tick at which a simulation ends; whether the status is to tell the answer
 pub record Said : Type 0 where
   pub form : Option Text
   pub from : Option Text
   pub to : Option Text
+  pub seed : Option Text
+  pub until : Option Text
+  pub strict : Option Text
 
 -- the text of an option, if it is given
 abbrev pub text_of : Option (Bor Text) → Option Text
 text_of o = option_map (λ s. s.now) o
 
--- the texts of the three options
-abbrev pub said : Option (Bor Text) → Option (Bor Text) → Option (Bor Text) → Said
-said form from to = record { form = text_of form; from = text_of from; to = text_of to }
+-- the texts of the options, as the code holds them
+abbrev pub said : Options → Said
+said o = record {
+  form = text_of o.form;
+  from = text_of o.from;
+  to = text_of o.to;
+  seed = text_of o.seed;
+  until = text_of o.until;
+  strict = text_of o.strict;
+}
+
+-- an option without a value is given: `clap` has the text `true` for it, and `false` if it is not given
+abbrev pub is_given : Option Text → Bool
+is_given None = false
+is_given (Some text) = bytes_eq text (codes "true")
 
 -- the number that the digits of a text spell
 abbrev pub number_in : Text → ℕ
@@ -47,27 +64,49 @@ IsTick (Some text) otherwise n = Spells text n
 abbrev pub AsksTicks : Option Text → Option Text → Window → Type 0
 AsksTicks from to w = IsTick from 0 w.from × IsTick to (min (w.from + 20000) 18446744073709551615) w.to
 
+-- the number from `least` to `greatest` that an option gives, or none if the option is not there
+abbrev pub IsNumber : ℕ → ℕ → Option Text → Option ℕ → Type 0
+IsNumber least greatest None found = found ≡ None
+IsNumber least greatest (Some text) None = ⊥
+IsNumber least greatest (Some text) (Some n) = Spells text n × (least ≤ n) × (n ≤ greatest)
+
+-- what is asked for in the place of what a load says: its seed, and the tick at which its simulation ends
+abbrev pub AsksChanges : Option Text → Option Text → Changes → Type 0
+AsksChanges seed until c = IsNumber 0 9223372036854775807 seed c.seed × IsNumber 1 1000000000000 until c.until
+
 -- Which form without ticks an action has. For simulate that is a report, as text if no form is named, or the lines by
 -- their name. For replay that is the lines, by their name or if no form is named, or a report by its name.
 abbrev pub AsksPlain : Option Text → Action → Type 0
-AsksPlain name (action.ReportLoad form) = MatchOption name (form ≡ Report) (λ n. n ≡ form_name form)
-AsksPlain name action.WriteLoadLines = MatchOption name ⊥ (λ n. n ≡ codes "lines")
+AsksPlain name (action.ReportLoad report) = MatchOption name (report.form ≡ Report) (λ n. n ≡ form_name report.form)
+AsksPlain name (action.WriteLoadLines changes) = MatchOption name ⊥ (λ n. n ≡ codes "lines")
 AsksPlain name (action.ReportTasks form) = MatchOption name ⊥ (λ n. n ≡ form_name form)
 AsksPlain name (action.Run Replay) = MatchOption name ⊤ (λ n. n ≡ codes "lines")
 AsksPlain name _ = ⊥
 
--- The options ask for the action. A drawing has ticks, and the other forms have none. Check and serve have no options.
+-- which changes of a load an action has, and whether its status tells the answer: only check and a report of a load may
+abbrev pub AsksRest : Said → Action → Type 0
+AsksRest s (action.Check strict) = strict ≡ is_given s.strict
+AsksRest s (action.ReportLoad report) = AsksChanges s.seed s.until report.changes × (report.strict ≡ is_given s.strict)
+AsksRest s (action.WriteLoadLines changes) = AsksChanges s.seed s.until changes × (is_given s.strict ≡ false)
+AsksRest s (action.DrawLoad drawing ticks changes) = AsksChanges s.seed s.until changes × (is_given s.strict ≡ false)
+AsksRest s _ = ⊤
+
+-- The form that the options ask for. A drawing has ticks, and the other forms have none. Check and serve have one form
 abbrev pub AsksForm : Said → Action → Type 0
-AsksForm s (action.DrawLoad drawing ticks) = (s.form ≡ Some (drawing_name drawing)) × AsksTicks s.from s.to ticks
+AsksForm s (action.DrawLoad drawing ticks changes) = (s.form ≡ Some (drawing_name drawing)) × AsksTicks s.from s.to ticks
 AsksForm s (action.DrawTasks drawing ticks) = (s.form ≡ Some (drawing_name drawing)) × AsksTicks s.from s.to ticks
 AsksForm s (action.Run Serve) = ⊤
-AsksForm s action.Check = ⊤
+AsksForm s (action.Check strict) = ⊤
 AsksForm s a = AsksPlain s.form a × (s.from ≡ None) × (s.to ≡ None)
 
+-- the options ask for the action
+abbrev pub Asks : Said → Action → Type 0
+Asks s a = AsksForm s a × AsksRest s a
+
 -- the verb, with a form that shows no ticks, asks for the action
-abbrev pub AsksPlainly : Text → Option Text → Action → Type 0
-AsksPlainly verb form a = (verb ≡ action_name a) × AsksPlain form a
+abbrev pub AsksPlainly : Text → Said → Action → Type 0
+AsksPlainly verb s a = (verb ≡ action_name a) × AsksPlain s.form a × AsksRest s a
 
 -- the verb, with these options, asks for the action
 abbrev pub AsksFor : Text → Said → Action → Type 0
-AsksFor verb s a = (verb ≡ action_name a) × AsksForm s a
+AsksFor verb s a = (verb ≡ action_name a) × Asks s a

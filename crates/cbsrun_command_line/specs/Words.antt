@@ -1,8 +1,9 @@
 -- The command line as `clap` sees it.
 use Rattle.std.specs.Prelude.{◌≡◌, ◌⊎◌, List, codes, true, Option, Some, string_bytes}
+use Rattle.clap.specs.declared.builder.action.ArgAction.TheVariants.{SetTrue}
 use Rattle.clap.specs.Words.{App, Row, Rule, Text, fault_of, first_of, new_app, new_rule, subcommand_of, takes, with_rule, with_subcommand}
 use Rattle.cbsrun_command_line.specs.Actions.{action_name}
-use Rattle.cbsrun_command_line.specs.Options.{Said, AsksForm}
+use Rattle.cbsrun_command_line.specs.Options.{Said, Asks}
 use Rattle.cbsrun_command_line.specs.Faults.{TellsOfKinds}
 use Rattle.cbsrun_command_line.specs.declared.actions.Asked.{Asked}
 use Rattle.cbsrun_command_line.specs.declared.fault.WordsFault.{WordsFault}
@@ -24,6 +25,10 @@ option name = record (new_rule name) { long = Some name; value_names = 1 }
 abbrev pub with_option : App → Text → App
 with_option verb name = with_rule verb (option name)
 
+-- a verb with one more option, which has no value
+abbrev pub with_flag : App → Text → App
+with_flag verb name = with_rule verb (record (new_rule name) { long = Some name; action = Some SetTrue })
+
 -- the verb of this name, which takes a file, the form of its output, and the ticks to show
 abbrev pub in_a_form : Text → App
 in_a_form name = with_option (with_option (with_option (on_file name) (codes "as")) (codes "from")) (codes "to")
@@ -40,26 +45,41 @@ with_version a = record a { top = record a.top { has_version = true } }
 abbrev pub bare_program : App
 bare_program = required (with_version (new_app (codes "cbsrun")))
 
--- the program with one more verb, of this name
-abbrev pub with_verb : App → Text → App
-with_verb program name = with_subcommand program (on_file name).top
+-- the verb that checks a file
+abbrev pub checking : App
+checking = with_flag (on_file (codes "check")) (codes "strict")
+
+-- the verb that simulates a load
+abbrev pub simulating : App
+simulating =
+    let seeded = with_option (in_a_form (codes "simulate")) (codes "seed") in
+    with_flag (with_option seeded (codes "until")) (codes "strict")
+
+-- the program with one more verb
+abbrev pub with_verb : App → App → App
+with_verb program verb = with_subcommand program verb.top
 
 -- the program, which has four subcommands
 abbrev pub command_line : App
 command_line =
-    let checking = with_verb bare_program (codes "check") in
-    let simulating = with_subcommand checking (in_a_form (codes "simulate")).top in
-    let replaying = with_subcommand simulating (in_a_form (codes "replay")).top in
-    with_verb replaying (codes "serve")
+    let replaying = with_verb (with_verb (with_verb bare_program checking) simulating) (in_a_form (codes "replay")) in
+    with_verb replaying (on_file (codes "serve"))
 
--- the texts that the rows of a subcommand give for the form and the ticks
+-- the texts that the rows of a subcommand give for its options
 abbrev pub said_in : List Row → Said
-said_in rows = record { form = first_of (codes "as") rows; from = first_of (codes "from") rows; to = first_of (codes "to") rows }
+said_in rows = record {
+  form = first_of (codes "as") rows;
+  from = first_of (codes "from") rows;
+  to = first_of (codes "to") rows;
+  seed = first_of (codes "seed") rows;
+  until = first_of (codes "until") rows;
+  strict = first_of (codes "strict") rows;
+}
 
 -- the subcommand that was found asks, with its rows, for the action and the file
 abbrev pub IsAsked : Option (Text × List Row) → Asked → Type 0
 IsAsked found asked =
-    (rows : List Row) × (found ≡ Some (action_name asked.action, rows)) × AsksForm (said_in rows) asked.action
+    (rows : List Row) × (found ≡ Some (action_name asked.action, rows)) × Asks (said_in rows) asked.action
     × (first_of (codes "FILE") rows ≡ Some (string_bytes asked.file))
 
 -- the subcommand that the words name asks for the action and the file

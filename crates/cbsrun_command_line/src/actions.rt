@@ -1,6 +1,14 @@
 //! The actions that a command line can ask for.
 
+ghost use Rattle.std.specs.Prelude.{◌≤◌, unwrap_or};
+
 use cbsrun_window::Window;
+
+/// The greatest seed of a load.
+pub const MOST_SEED: u64 = 9_223_372_036_854_775_807;
+
+/// The greatest tick at which the simulation of a load ends.
+pub const LAST_END: u64 = 1_000_000_000_000;
 
 /// What `replay` or `serve` does with a task file.
 #[derive(Clone, Copy, Debug, PartialEq, Eq)]
@@ -32,17 +40,43 @@ pub enum Drawing {
     Trace,
 }
 
+/// What takes the place of what a load itself says. Without a number, the load's own one stays.
+#[derive(Clone, Copy, Debug, PartialEq, Eq)]
+pub struct Changes {
+    /// The seed of the numbers that are drawn: 0 to [`MOST_SEED`].
+    pub seed: Option<u64>,
+    /// The tick at which the simulation ends: 1 to [`LAST_END`].
+    pub until: Option<u64>,
+    ghost seeded: { unwrap_or seed 0 ≤ 9223372036854775807 },
+    ghost some: { 1 ≤ unwrap_or until 1 },
+    ghost few: { unwrap_or until 1 ≤ 1000000000000 },
+}
+
+/// The report of a load that a command line asks for.
+#[derive(Clone, Copy, Debug, PartialEq, Eq)]
+pub struct LoadReport {
+    /// The form of the report.
+    pub form: Form,
+    /// What takes the place of what the load says.
+    pub changes: Changes,
+    /// Whether the status is 1 if a job is late or was refused.
+    pub strict: bool,
+}
+
 /// The action that a command line asks for.
 #[derive(Clone, Copy, Debug, PartialEq, Eq)]
 pub enum Action {
     /// The text on what the servers of a file have and could have, and which jobs of a load are always in time.
-    Check,
-    /// The simulation of a load, with a report in this form.
-    ReportLoad(Form),
-    /// The simulation of a load, with a line for each step.
-    WriteLoadLines,
-    /// The simulation of a load, with a drawing of these ticks.
-    DrawLoad(Drawing, Window),
+    Check {
+        /// Whether the status is 1 if the jobs of a source are not promised to be in time.
+        strict: bool,
+    },
+    /// The simulation of a load, with this report.
+    ReportLoad(LoadReport),
+    /// The simulation of a load with these changes, with a line for each step.
+    WriteLoadLines(Changes),
+    /// The simulation of a load with these changes, with a drawing of these ticks.
+    DrawLoad(Drawing, Window, Changes),
     /// The replay of a task file, with a report in this form.
     ReportTasks(Form),
     /// The replay of a task file, with a drawing of these ticks.

@@ -3,13 +3,31 @@
 ghost use Rattle.std.specs.Prelude.{◌≡◌, codes, IfOk, Some};
 ghost use Rattle.cbsrun_command_line.specs.Actions.{drawing_name, form_name};
 ghost use Rattle.cbsrun_command_line.specs.Faults.{words_fault_number};
-ghost use Rattle.cbsrun_command_line.specs.Options.{AsksFor, AsksPlainly, AsksTicks, Finds, IsTick, said, text_of};
+ghost use Rattle.cbsrun_command_line.specs.Options.{AsksChanges, AsksFor, AsksPlainly, AsksTicks, Finds, IsNumber, IsTick, is_given, said, text_of};
 
-use crate::actions::{Action, Drawing, Form, Verb};
+use crate::actions::{Action, Changes, Drawing, Form, LAST_END, LoadReport, MOST_SEED, Verb};
 use crate::fault::WordsFault;
 use cbsrun_window::{MOST_TICKS, Window, WindowError};
 use std::alloc::{AllocError, Global};
 use std::fmt::Write;
+
+/// The texts of the options of a command. Those of an option that is not there, or that the command does not have, are
+/// `None`.
+#[derive(Clone, Copy)]
+pub(crate) struct Options<'a> {
+    /// The form of the output.
+    pub form: Option<&'a str>,
+    /// The first tick to show.
+    pub from: Option<&'a str>,
+    /// The tick after the last one to show.
+    pub to: Option<&'a str>,
+    /// The seed of a load.
+    pub seed: Option<&'a str>,
+    /// The tick at which the simulation of a load ends.
+    pub until: Option<&'a str>,
+    /// Whether the status is to tell the answer: `true` if so.
+    pub strict: Option<&'a str>,
+}
 
 /// Returns the tick that an option gives, or `otherwise` if the option is not there. Returns `None` if its text is no
 /// whole number below 2^64.
@@ -30,6 +48,40 @@ fn ticks_of(from: Option<&str>, to: Option<&str>) -> Option<Window>
     let first = tick_of(from, 0)?;
     let end = tick_of(to, first.saturating_add(MOST_TICKS))?;
     Window::new(first, end).ok()
+}
+
+/// Returns the number that an option gives, or `Some(None)` if the option is not there. Returns `None` if its text is no
+/// whole number from `least` to `greatest`.
+fn number_of(said: Option<&str>, least: u64, greatest: u64) -> Option<Option<u64>>
+    ensures { Finds result (IsNumber least greatest (text_of said.entry)) }
+{
+    let Some(text) = said else {
+        return Some(None);
+    };
+    match text.parse::<u64>() {
+        Ok(number) if least <= number && number <= greatest => Some(Some(number)),
+        _ => None,
+    }
+}
+
+/// Returns what the options `--seed` and `--until` ask for in the place of what a load says. Returns `None` if a number
+/// is out of its range.
+fn changes_of(seed: Option<&str>, until: Option<&str>) -> Option<Changes>
+    ensures { Finds result (AsksChanges (text_of seed.entry) (text_of until.entry)) }
+{
+    let seed = number_of(seed, 0, MOST_SEED)?;
+    let until = number_of(until, 1, LAST_END)?;
+    Some(Changes { seed, until })
+}
+
+/// Returns whether an option without a value is given.
+fn is_given(said: Option<&str>) -> bool
+    ensures { result ≡ is_given (text_of said.entry) }
+{
+    match said {
+        Some(text) => text == "true",
+        None => false,
+    }
 }
 
 /// Returns the form of a report with this name, or `None` if there is none.
@@ -55,73 +107,108 @@ fn drawing_of(form: Option<&str>) -> Option<Drawing>
     }
 }
 
-/// Returns the action of `simulate` for a form that shows no ticks, by the form's name. Without a name, this is the
-/// report as text. Returns `None` if no such form has this name.
-fn simulated_as(form: Option<&str>) -> Option<Action>
-    ensures { Finds result (AsksPlainly (codes "simulate") (text_of form.entry)) }
+/// Returns the action of `simulate` with these options for a form that shows no ticks. Without a form, this is the report
+/// as text. Returns `None` if no such form has this name, if a number is out of its range, or if the lines are to be
+/// strict.
+fn simulated_as(options: Options<'_>) -> Option<Action>
+    ensures { Finds result (AsksPlainly (codes "simulate") (said options.entry)) }
 {
-    match form {
-        None => Some(Action::ReportLoad(Form::Report)),
-        Some("lines") => Some(Action::WriteLoadLines),
-        Some(name) => form_of(name).map(Action::ReportLoad),
-    }
+    let changes = changes_of(options.seed, options.until)?;
+    let strict = is_given(options.strict);
+    let form = match options.form {
+        None => Form::Report,
+        Some("lines") if strict => return None,
+        Some("lines") => return Some(Action::WriteLoadLines(changes)),
+        Some(name) => form_of(name)?,
+    };
+    Some(Action::ReportLoad(LoadReport {
+        form,
+        changes,
+        strict,
+    }))
 }
 
-/// Returns the action of `replay` for a form that shows no ticks, by the form's name. Without a name, this is the line
-/// for each step. Returns `None` if no such form has this name.
-fn replayed_as(form: Option<&str>) -> Option<Action>
-    ensures { Finds result (AsksPlainly (codes "replay") (text_of form.entry)) }
+/// Returns the action of `replay` with these options for a form that shows no ticks. Without a form, this is the line for
+/// each step. Returns `None` if no such form has this name.
+fn replayed_as(options: Options<'_>) -> Option<Action>
+    ensures { Finds result (AsksPlainly (codes "replay") (said options.entry)) }
 {
-    match form {
+    match options.form {
         None | Some("lines") => Some(Action::Run(Verb::Replay)),
         Some(name) => form_of(name).map(Action::ReportTasks),
     }
 }
 
-/// Returns the action of `simulate` with these options, or `None` if they ask for none.
-fn simulated_with(form: Option<&str>, from: Option<&str>, to: Option<&str>) -> Option<Action>
-    ensures { Finds result (AsksFor (codes "simulate") (said form.entry from.entry to.entry)) }
+/// Returns the drawing of a load that these options ask for. Returns `None` if they ask for no ticks, if a number is out
+/// of its range, or if the drawing is to be strict.
+fn drawn_load(drawing: Drawing, options: Options<'_>) -> Option<Action>
+    requires { text_of options.form ≡ Some (drawing_name drawing) }
+    ensures { Finds result (AsksFor (codes "simulate") (said options.entry)) }
 {
-    if let Some(drawing) = drawing_of(form) {
-        let ticks = ticks_of(from, to)?;
-        return Some(Action::DrawLoad(drawing, ticks));
-    }
-    if from.is_some() || to.is_some() {
+    let changes = changes_of(options.seed, options.until)?;
+    if is_given(options.strict) {
         return None;
     }
-    simulated_as(form)
+    let ticks = ticks_of(options.from, options.to)?;
+    Some(Action::DrawLoad(drawing, ticks, changes))
+}
+
+/// Returns the action of `simulate` with these options, or `None` if they ask for none.
+fn simulated_with(options: Options<'_>) -> Option<Action>
+    ensures { Finds result (AsksFor (codes "simulate") (said options.entry)) }
+{
+    if let Some(drawing) = drawing_of(options.form) {
+        return drawn_load(drawing, options);
+    }
+    if options.from.is_some() || options.to.is_some() {
+        return None;
+    }
+    simulated_as(options)
 }
 
 /// Returns the action of `replay` with these options, or `None` if they ask for none.
-fn replayed_with(form: Option<&str>, from: Option<&str>, to: Option<&str>) -> Option<Action>
-    ensures { Finds result (AsksFor (codes "replay") (said form.entry from.entry to.entry)) }
+fn replayed_with(options: Options<'_>) -> Option<Action>
+    ensures { Finds result (AsksFor (codes "replay") (said options.entry)) }
 {
-    if let Some(drawing) = drawing_of(form) {
-        let ticks = ticks_of(from, to)?;
+    if let Some(drawing) = drawing_of(options.form) {
+        let ticks = ticks_of(options.from, options.to)?;
         return Some(Action::DrawTasks(drawing, ticks));
     }
-    if from.is_some() || to.is_some() {
+    if options.from.is_some() || options.to.is_some() {
         return None;
     }
-    replayed_as(form)
+    replayed_as(options)
 }
 
 /// Returns the action of the command with this name and these options, or `None` if there is none.
-pub(crate) fn action_of(
-    name: &str,
-    form: Option<&str>,
-    from: Option<&str>,
-    to: Option<&str>,
-) -> Option<Action>
-    ensures { Finds result (AsksFor name.now (said form.entry from.entry to.entry)) }
+pub(crate) fn action_of(name: &str, options: Options<'_>) -> Option<Action>
+    ensures { Finds result (AsksFor name.now (said options.entry)) }
 {
     match name {
-        "check" => Some(Action::Check),
-        "simulate" => simulated_with(form, from, to),
-        "replay" => replayed_with(form, from, to),
+        "check" => Some(Action::Check {
+            strict: is_given(options.strict),
+        }),
+        "simulate" => simulated_with(options),
+        "replay" => replayed_with(options),
         "serve" => Some(Action::Run(Verb::Serve)),
         _ => None,
     }
+}
+
+/// Appends that the text of an option is no whole number from `least` to `greatest`.
+fn append_no_number(
+    text: &mut String,
+    option: &str,
+    said: Option<&str>,
+    least: u64,
+    greatest: u64,
+) -> Result<(), AllocError> {
+    let said = said.unwrap_or("");
+    writeln!(text, "error: invalid value '{said}' for '{option}'")?;
+    writeln!(
+        text,
+        "  [a whole number from {least} to {greatest} is wanted]"
+    )
 }
 
 /// Appends that the text of an option is no tick.
@@ -159,31 +246,61 @@ fn append_no_ticks(
     }
 }
 
+/// Appends that no form has this name.
+fn append_no_form(text: &mut String, form: Option<&str>) -> Result<(), AllocError> {
+    let form = form.unwrap_or("");
+    writeln!(text, "error: invalid value '{form}' for '--as <FORMAT>'")?;
+    writeln!(
+        text,
+        "  [possible values: lines, report, json, text, svg, trace]"
+    )
+}
+
+/// Appends why a command has no action with these options, whose numbers for a load are in their ranges.
+fn append_wrong_form(
+    text: &mut String,
+    verb: &str,
+    options: Options<'_>,
+) -> Result<(), AllocError> {
+    let unlimited = Options {
+        from: None,
+        to: None,
+        strict: None,
+        ..options
+    };
+    if action_of(verb, unlimited).is_none() {
+        return append_no_form(text, options.form);
+    }
+    if is_given(options.strict) {
+        return writeln!(
+            text,
+            "error: --strict goes with '--as report' and '--as json' alone"
+        );
+    }
+    if drawing_of(options.form).is_some() {
+        return append_no_ticks(text, options.from, options.to);
+    }
+    writeln!(
+        text,
+        "error: --from and --to go with '--as text', '--as svg' and '--as trace' alone"
+    )
+}
+
 /// Returns the fault of a command line whose options ask for no action.
 pub(crate) fn wrong_options(
     alloc: Global,
     verb: &str,
-    form: Option<&str>,
-    from: Option<&str>,
-    to: Option<&str>,
+    options: Options<'_>,
 ) -> Result<WordsFault, AllocError>
     ensures { IfOk result (λ w. words_fault_number w ≡ 1) }
 {
     let mut text = String::new(alloc);
-    if drawing_of(form).is_some() {
-        append_no_ticks(&mut text, from, to)?;
-    } else if action_of(verb, form, None, None).is_some() {
-        writeln!(
-            text,
-            "error: --from and --to go with '--as text', '--as svg' and '--as trace' alone"
-        )?;
+    if number_of(options.seed, 0, MOST_SEED).is_none() {
+        append_no_number(&mut text, "--seed <SEED>", options.seed, 0, MOST_SEED)?;
+    } else if number_of(options.until, 1, LAST_END).is_none() {
+        append_no_number(&mut text, "--until <TICK>", options.until, 1, LAST_END)?;
     } else {
-        let form = form.unwrap_or("");
-        writeln!(text, "error: invalid value '{form}' for '--as <FORMAT>'")?;
-        writeln!(
-            text,
-            "  [possible values: lines, report, json, text, svg, trace]"
-        )?;
+        append_wrong_form(&mut text, verb, options)?;
     }
     writeln!(text, "\nFor more information, try 'cbsrun {verb} --help'.")?;
     Ok(WordsFault::Usage(text))

@@ -73,6 +73,7 @@ status 3. CBSRUN_MEMORY, in the environment, is another bound, in MiB.
 
 Exit status:
   0  done, or this help; also if jobs are late or refused: that is an answer
+  1  done, and with --strict a job was late or refused, or is not promised
   2  the command line is wrong, the run ends before the first tick to show, or
      CBSRUN_MEMORY is no whole number
   3  the file could not be read, or has a fault
@@ -109,3 +110,15 @@ pub(crate) const FROM: &str =
 pub(crate) const TO: &str =
     "The tick after the last one that it shows: at most 20000 later [default: the end, \
 or as many]";
+
+pub(crate) const SEED: &str =
+    "The seed of the numbers that are drawn, in place of the load's own: 0 to 2^63 - 1";
+
+pub(crate) const UNTIL: &str =
+    "The tick at which the simulation ends, in place of the load's own: 1 to 10^12";
+
+pub(crate) const IN_TIME: &str =
+    "Ends with status 1 if a job was late or refused; with a report or json alone";
+
+pub(crate) const PROMISED: &str =
+    "Ends with status 1 if the jobs of a source are not promised to be in time";

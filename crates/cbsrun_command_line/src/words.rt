@@ -1,20 +1,21 @@
 //! The words of a command line, as `clap` sees them.
 
 ghost use Rattle.std.specs.Prelude.{◌≡◌, ◌≢◌, codes, IfOk, IfErr, false, map, string_bytes};
-ghost use Rattle.clap.specs.Words.{app_of, kind_of, subcommand_rows_of, with_subcommand};
+ghost use Rattle.clap.specs.Words.{app_of, kind_of, subcommand_rows_of};
 ghost use Rattle.clap.specs.declared.builder.command.Command.TheViews.{out-Command};
 ghost use Rattle.cbsrun_command_line.specs.Faults.{number_of, words_fault_number};
-ghost use Rattle.cbsrun_command_line.specs.Words.{command_line, on_file, in_a_form, with_option, bare_program, IsAsked, Names, AreTaken, TellsOf};
+ghost use Rattle.cbsrun_command_line.specs.Words.{command_line, checking, simulating, on_file, in_a_form, with_option, with_flag, with_verb, bare_program, IsAsked, Names, AreTaken, TellsOf};
 ghost use Rattle.cbsrun_command_line.specs.declared.fault.WordsFault.TheVariants.{OutOfMemory};
 
 use crate::actions::Asked;
 use crate::fault::WordsFault;
-use crate::options::{action_of, wrong_options};
+use crate::options::{Options, action_of, wrong_options};
 use crate::texts::{
-    ABOUT, CHECK, FILES, FROM, GUIDE, REPLAY, REPORTS, SERVE, SIMULATE, TO, TRACES, VERSION,
+    ABOUT, CHECK, FILES, FROM, GUIDE, IN_TIME, PROMISED, REPLAY, REPORTS, SEED, SERVE, SIMULATE,
+    TO, TRACES, UNTIL, VERSION,
 };
 use clap::error::ErrorKind;
-use clap::{Arg, ArgMatches, Command, Error};
+use clap::{Arg, ArgAction, ArgMatches, Command, Error};
 use std::alloc::{AllocError, Global};
 
 /// Returns the verb of this name, which takes a file.
@@ -44,6 +45,21 @@ fn with_option<'a>(
     verb.arg(option.value_name(value))
 }
 
+/// Returns a verb with one more option, which has no value.
+fn with_flag<'a>(
+    alloc: Global,
+    verb: Command<'a>,
+    name: &'a str,
+    help: &'a str,
+) -> Result<Command<'a>, AllocError>
+    ensures app { IfOk result (λ c. app_of c ≡ with_flag (app_of verb.entry) name.now) }
+    ensures local { (out-Command verb.entry).has_globals ≡ false
+        → IfOk result (λ c. (out-Command c).has_globals ≡ false) }
+{
+    let option = Arg::new(alloc, name).long(name).help(help);
+    verb.arg(option.action(ArgAction::SetTrue))
+}
+
 /// Returns the verb of this name, which takes a file, the form of its output, and the ticks to show.
 fn in_a_form<'a>(
     alloc: Global,
@@ -60,32 +76,31 @@ fn in_a_form<'a>(
     with_option(alloc, verb, "to", "TICK", TO)
 }
 
-/// Returns the program with one more verb.
-fn with_verb<'a>(
-    alloc: Global,
-    program: Command<'a>,
-    name: &'a str,
-    about: &'a str,
-) -> Result<Command<'a>, AllocError>
-    ensures { IfOk result (λ c. app_of c ≡ with_subcommand (app_of program.entry)
-        (on_file name.now).top) }
+/// Returns the verb that checks a file.
+fn checking<'a>(alloc: Global) -> Result<Command<'a>, AllocError>
+    ensures app { IfOk result (λ c. app_of c ≡ checking) }
+    ensures local { IfOk result (λ c. (out-Command c).has_globals ≡ false) }
 {
-    let verb = on_file(alloc, name, about)?;
-    program.subcommand(verb)
+    let verb = on_file(alloc, "check", CHECK)?;
+    with_flag(alloc, verb, "strict", PROMISED)
 }
 
-/// Returns the program with one more verb, which takes a file, the form of its output, and the ticks to show.
-fn with_verb_in_a_form<'a>(
-    alloc: Global,
-    program: Command<'a>,
-    name: &'a str,
-    about: &'a str,
-    forms: &'a str,
-) -> Result<Command<'a>, AllocError>
-    ensures { IfOk result (λ c. app_of c ≡ with_subcommand (app_of program.entry)
-        (in_a_form name.now).top) }
+/// Returns the verb that simulates a load.
+fn simulating<'a>(alloc: Global) -> Result<Command<'a>, AllocError>
+    ensures app { IfOk result (λ c. app_of c ≡ simulating) }
+    ensures local { IfOk result (λ c. (out-Command c).has_globals ≡ false) }
 {
-    let verb = in_a_form(alloc, name, about, forms)?;
+    let verb = in_a_form(alloc, "simulate", SIMULATE, REPORTS)?;
+    let verb = with_option(alloc, verb, "seed", "SEED", SEED)?;
+    let verb = with_option(alloc, verb, "until", "TICK", UNTIL)?;
+    with_flag(alloc, verb, "strict", IN_TIME)
+}
+
+/// Returns the program with one more verb.
+fn with_verb<'a>(program: Command<'a>, verb: Command<'a>) -> Result<Command<'a>, AllocError>
+    requires { (out-Command verb).has_globals ≡ false }
+    ensures { IfOk result (λ c. app_of c ≡ with_verb (app_of program.entry) (app_of verb.entry)) }
+{
     program.subcommand(verb)
 }
 
@@ -105,10 +120,26 @@ fn bare_program<'a>(alloc: Global) -> Command<'a>
 fn command_line<'a>(alloc: Global) -> Result<Command<'a>, AllocError>
     ensures { IfOk result (λ c. app_of c ≡ command_line) }
 {
-    let program = with_verb(alloc, bare_program(alloc), "check", CHECK)?;
-    let program = with_verb_in_a_form(alloc, program, "simulate", SIMULATE, REPORTS)?;
-    let program = with_verb_in_a_form(alloc, program, "replay", REPLAY, TRACES)?;
-    with_verb(alloc, program, "serve", SERVE)
+    let check = checking(alloc)?;
+    let simulate = simulating(alloc)?;
+    let replay = in_a_form(alloc, "replay", REPLAY, TRACES)?;
+    let serve = on_file(alloc, "serve", SERVE)?;
+    let program = with_verb(bare_program(alloc), check)?;
+    let program = with_verb(program, simulate)?;
+    let program = with_verb(program, replay)?;
+    with_verb(program, serve)
+}
+
+/// Returns the text of an error of `clap`, without its tip to pass an option that there is not as a file.
+fn told(alloc: Global, error: &Error) -> Result<String, AllocError> {
+    let text = error.to_string(alloc)?;
+    let Some((before, rest)) = text.split_once("\n\n  tip: to pass '") else {
+        return Ok(text);
+    };
+    let Some((_, after)) = rest.split_once("\n\n") else {
+        return Ok(text);
+    };
+    format!(in alloc; "{before}\n\n{after}")
 }
 
 /// Returns the fault of a command line that `clap` refused.
@@ -117,7 +148,7 @@ fn refused(alloc: Global, error: &Error) -> Result<WordsFault, AllocError>
         → IfOk result (λ w. w ≡ OutOfMemory) }
     ensures kind { IfOk result (λ w. words_fault_number w ≡ number_of (kind_of error.now)) }
 {
-    let text = error.to_string(alloc)?;
+    let text = told(alloc, error)?;
     Ok(match error.kind() {
         ErrorKind::OutOfMemory => WordsFault::OutOfMemory,
         ErrorKind::DisplayHelp | ErrorKind::DisplayVersion => WordsFault::Help(text),
@@ -147,8 +178,19 @@ fn asked_in(alloc: Global, matches: &ArgMatches) -> Result<Asked, WordsFault>
     let form = inner.get_str("as");
     let from = inner.get_str("from");
     let to = inner.get_str("to");
-    let Some(action) = action_of(name, form, from, to) else {
-        return Err(wrong_options(alloc, name, form, from, to)?);
+    let seed = inner.get_str("seed");
+    let until = inner.get_str("until");
+    let strict = inner.get_str("strict");
+    let options = Options {
+        form,
+        from,
+        to,
+        seed,
+        until,
+        strict,
+    };
+    let Some(action) = action_of(name, options) else {
+        return Err(wrong_options(alloc, name, options)?);
     };
     let Some(file) = inner.get_str("FILE") else {
         return Err(incomplete(alloc)?);

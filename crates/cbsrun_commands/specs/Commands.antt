@@ -1,5 +1,5 @@
 -- What a command on a file leaves on its writers, by its result and by its status.
-use Rattle.std.specs.Prelude.{◌≡◌, ◌⊎◌, ℕ, List, Result, Ok, Err}
+use Rattle.std.specs.Prelude.{◌≡◌, ◌≢◌, ◌⊎◌, ◌&&◌, ℕ, Bool, not, if◌then◌else◌, List, Result, Ok, Err}
 use Rattle.cbsrun_window.specs.declared.shown.NothingShown.{NothingShown}
 use Rattle.cbsrun_toml_tables.specs.Documents.{no_memory}
 use Rattle.cbsrun_toml_tables.specs.declared.fault.FileFault.{FileFault}
@@ -22,7 +22,7 @@ abbrev pub printing_command : {F : Type 0} → (List ℕ → Result F FileFault)
 printing_command read prints = record { read = read; prints = prints; short = λ f. IsUntouched; nothing = λ f e. ⊥ }
 
 -- what the command on the bytes left on the output, by its result: at Ok a whole text
-abbrev pub Does : {F : Type 0} → Command F → List ℕ → Result (Unit {0}) Stopped → Writer → Writer → Type 0
+abbrev pub Does : {F A : Type 0} → Command F → List ℕ → Result A Stopped → Writer → Writer → Type 0
 Does {F} c bytes (Ok x) old new = (f : F) × (text : List ℕ) × (c.read bytes ≡ Ok f) × c.prints f text × Writes old new text
 Does {F} c bytes (Err (Unread fault)) old new = ((fault ≡ no_memory) ⊎ (c.read bytes ≡ Err fault)) × IsUntouched old new
 Does {F} c bytes (Err (Ended e)) old new = (f : F) × (c.read bytes ≡ Ok f) × c.nothing f e × IsUntouched old new
@@ -34,6 +34,15 @@ Tells name bytes (Ok x) old new status = (status ≡ 0) × IsUntouched old new
 Tells name bytes (Err (Unread fault)) old new status = (status ≡ 3) × Explains name bytes fault old new
 Tells name bytes (Err (Ended e)) old new status = (status ≡ 2) × TriesToWrite old new (nothing_shown_line e.from e.end)
 Tells name bytes (Err (Run error)) old new status = (status ≡ 4) × TriesToWrite old new (run_line error)
+
+-- the same of a command whose answer is yes or no, with this status if it is done
+abbrev pub TellsAnswer : (Bool → ℕ) → List ℕ → List ℕ → Result Bool Stopped → Writer → Writer → ℕ → Type 0
+TellsAnswer done name bytes (Ok answer) old new status = (status ≡ done answer) × IsUntouched old new
+TellsAnswer done name bytes (Err stopped) old new status = Tells name bytes (Err stopped) old new status
+
+-- the status of a command that is done, with this answer: 1 if `--strict` is given and the answer is no
+abbrev pub status_done : Bool → Bool → ℕ
+status_done strict answer = if strict && not answer then 1 else 0
 
 -- A command on the file with this name and these bytes ended with this status, and left out and err so. At 0 a text is
 -- printed, whole. At 2 there is nothing to show. At 3 the bytes spell no such file, or memory was refused. At 4 the run
@@ -47,3 +56,12 @@ pub data EndsAs {F : Type 0} (c : Command F) (name bytes : List ℕ) (out out' e
       → EndsAs c name bytes out out' err err' 3
   stopped : (f : F) (error : RunError) → c.read bytes ≡ Ok f → StopsPrinting (c.prints f) (c.short f) error out out'
       → TriesToWrite err err' (run_line error) → EndsAs c name bytes out out' err err' 4
+
+-- A command whose answer of a file is yes or no ended with this status, and left out and err so. If it is done, its text
+-- is printed whole, and the answer is told by the status if `--strict` is given. Else it ended as any command does
+pub data EndsByAnswer {F : Type 0} (c : Command F) (answers : F → Bool → Type 0) (strict : Bool) (name bytes : List ℕ) (out out' err err' : Writer)
+    : ℕ → Type 0 where
+  answered : (f : F) (text : List ℕ) (answer : Bool) → c.read bytes ≡ Ok f → c.prints f text → answers f answer → Writes out out' text
+      → IsUntouched err err' → EndsByAnswer c answers strict name bytes out out' err err' (status_done strict answer)
+  not_done : (status : ℕ) → status ≢ 0 → EndsAs c name bytes out out' err err' status
+      → EndsByAnswer c answers strict name bytes out out' err err' status

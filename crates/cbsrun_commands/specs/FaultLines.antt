@@ -37,7 +37,7 @@ StopsPrinting is short Stalled old new = ⊥
 
 -- what a command that prints a text left, by its result: at Ok the whole text. If out of memory, nothing is left, since
 -- the text is made before it is written
-abbrev pub Prints : (List ℕ → Type 0) → Result (Unit {0}) RunError → Writer → Writer → Type 0
+abbrev pub Prints : {A : Type 0} → (List ℕ → Type 0) → Result A RunError → Writer → Writer → Type 0
 Prints is (Ok x) old new = (text : List ℕ) × is text × Writes old new text
 Prints is (Err error) old new = StopsPrinting is IsUntouched error old new
 

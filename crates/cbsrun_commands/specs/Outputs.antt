@@ -1,5 +1,13 @@
 -- What each command reads, and what it prints.
-use Rattle.std.specs.Prelude.{ℕ, if◌then◌else◌, List, Result, ◌≡◌, Ok, Err}
+use Rattle.std.specs.Prelude.{ℕ, Bool, true, false, if◌then◌else◌, List, length, get_or, unwrap_or, Option, Some, None, Result, ◌≡◌, Ok, Err}
+use Rattle.std.specs.List.{list_all}
+use Rattle.cbsrun_command_line.specs.declared.actions.Changes.{Changes}
+use Rattle.cbs_guarantee.specs.declared.source.NotPromised.{NotPromised}
+use Rattle.cbsrun_report_json.specs.Json.{all_in_time}
+use Rattle.cbsrun_simulate.specs.declared.terms.SourceTerms.{SourceTerms}
+use Rattle.cbsrun_sizing.specs.Budgets.{is_within}
+use Rattle.cbsrun_sizing.specs.ServerLoads.{AreServerLoads, no_load}
+use Rattle.cbsrun_sizing.specs.declared.server_load.ServerLoad.{ServerLoad}
 use Rattle.cbsrun_check_text.specs.Checks.{IsLoadText, IsPlanText}
 use Rattle.cbsrun_tasks.specs.Spelling.{file}
 use Rattle.cbsrun_loads.specs.Spelling.{is_load, load}
@@ -7,7 +15,7 @@ use Rattle.cbsrun_commands.specs.declared.check.AnyFile.{AnyFile}
 use Rattle.cbsrun_commands.specs.declared.check.AnyFile.TheVariants.{Load, Tasks}
 use Rattle.cbsrun_toml_tables.specs.Fields.{◌>>=◌, seen}
 use Rattle.cbsrun_toml_tables.specs.declared.fault.FileFault.{FileFault}
-use Rattle.cbsrun_loads.specs.Loads.{LoadFile}
+use Rattle.cbsrun_loads.specs.Loads.{LoadFile, with_seed, with_until}
 use Rattle.cbsrun_lines.specs.Traces.{AreLoadLines, WritesSomeLines}
 use Rattle.cbsrun_runs.specs.Loads.{seen_in, run_of, IsKept}
 use Rattle.cbsrun_commands.specs.Commands.{Command, printing_command}
@@ -40,9 +48,36 @@ abbrev pub IsCheckText : AnyFile → List ℕ → Type 0
 IsCheckText (Load f) text = IsLoadText f text
 IsCheckText (Tasks f) text = IsPlanText f.plan f.modes text
 
+-- whether so many ticks are promised that they are at most the wanted ones
+abbrev pub is_promised : Result ℕ NotPromised → Option ℕ → Bool
+is_promised (Err why) within = false
+is_promised (Ok time) within = is_within time within
+
+-- whether the jobs of each source are promised to be in time, by the figures of the servers
+abbrev pub all_promised : List ServerLoad → List SourceTerms → Bool
+all_promised loads sources = list_all (λ t. is_promised (get_or loads t.server no_load).promised t.within) sources
+
+-- whether the jobs of each source of the load are promised to be in time
+abbrev pub AreSourcesPromised : LoadFile → Bool → Type 0
+AreSourcesPromised f answer =
+    (loads : List ServerLoad) × AreServerLoads f (length f.plan.rates) loads × (answer ≡ all_promised loads f.sources)
+
+-- the same of a file of either kind. A task file has no source
+abbrev pub ArePromised : AnyFile → Bool → Type 0
+ArePromised (Load f) answer = AreSourcesPromised f answer
+ArePromised (Tasks f) answer = answer ≡ true
+
+-- the load with what takes the place of its own seed and its own end
+abbrev pub changed : Changes → LoadFile → LoadFile
+changed changes f = with_until (unwrap_or changes.until f.until) (with_seed (unwrap_or changes.seed f.seed) f)
+
+-- the load that the bytes spell, so changed
+abbrev pub changed_load : Changes → List ℕ → Result LoadFile FileFault
+changed_load changes bytes = seen (changed changes) (load bytes)
+
 -- the command that writes the lines of a load while they are made
-abbrev pub lines_command : Command LoadFile
-lines_command = record { read = load; prints = AreLoadLines; short = λ f. WritesSomeLines (seen_in f); nothing = λ f e. ⊥ }
+abbrev pub lines_command : Changes → Command LoadFile
+lines_command changes = record { read = changed_load changes; prints = AreLoadLines; short = λ f. WritesSomeLines (seen_in f); nothing = λ f e. ⊥ }
 
 -- a report in a form
 abbrev pub text_in : Form → RunReport → List ℕ
@@ -62,9 +97,17 @@ IsReportText form name f text = IsRunText form name (run_of f) text × IsKept f
 abbrev pub IsTaskReportText : Form → List ℕ → File → List ℕ → Type 0
 IsTaskReportText form name f text = IsRunText form name (run_of_tasks f) text
 
+-- whether each job of the run was in time, by a report of it
+abbrev pub IsRunInTime : List ℕ → Shown → Bool → Type 0
+IsRunInTime name run answer = (r : RunReport) × IsReportOf name run r × (answer ≡ all_in_time r.servers.items)
+
+-- whether each job of the load's run was in time
+abbrev pub IsInTime : List ℕ → LoadFile → Bool → Type 0
+IsInTime name f answer = IsRunInTime name (run_of f) answer
+
 -- the command that prints a report of a load, and the one that prints a report of a task file
-abbrev pub load_report : Form → List ℕ → Command LoadFile
-load_report form name = printing_command load (IsReportText form name)
+abbrev pub load_report : Changes → Form → List ℕ → Command LoadFile
+load_report changes form name = printing_command (changed_load changes) (IsReportText form name)
 
 abbrev pub task_report : Form → List ℕ → Command File
 task_report form name = printing_command file (IsTaskReportText form name)
@@ -102,8 +145,8 @@ drawing_command read is ends asked =
     record { read = read; prints = is; short = λ f. IsUntouched; nothing = λ f e. AnswersShown asked (ends f) (Err e) }
 
 -- the command that draws a load, and the one that draws a task file
-abbrev pub load_drawing : Drawing → Window → List ℕ → Command LoadFile
-load_drawing drawing asked name = drawing_command load (IsLoadDrawing drawing asked name) end_of asked
+abbrev pub load_drawing : Changes → Drawing → Window → List ℕ → Command LoadFile
+load_drawing changes drawing asked name = drawing_command (changed_load changes) (IsLoadDrawing drawing asked name) end_of asked
 
 abbrev pub task_drawing : Drawing → Window → List ℕ → Command File
 task_drawing drawing asked name = drawing_command file (IsTaskDrawing drawing asked name) clock_of_tasks asked

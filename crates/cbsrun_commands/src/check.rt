@@ -1,16 +1,21 @@
 //! The command `check`: from the bytes of a load or a task file to a status.
 
-ghost use Rattle.std.specs.Prelude.{◌≡◌, IfOk, string_bytes};
+ghost use Rattle.std.specs.Prelude.{◌≡◌, IfOk, Ok, get_or, string_bytes};
+ghost use Rattle.cbsrun_sizing.specs.ServerLoads.{no_load};
+ghost use Rattle.cbsrun_commands.specs.declared.check.AnyFile.{AnyFile};
 ghost use Rattle.cbsrun_toml_tables.specs.Documents.{no_memory};
 ghost use Rattle.cbsrun_toml_tables.specs.Fields.{Gives};
-ghost use Rattle.cbsrun_commands.specs.Outputs.{any_file, IsCheckText};
-ghost use Rattle.cbsrun_commands.specs.Commands.{Does, EndsAs, printing_command};
+ghost use Rattle.cbsrun_commands.specs.Outputs.{all_promised, any_file, is_promised, ArePromised, AreSourcesPromised, IsCheckText};
+ghost use Rattle.cbsrun_commands.specs.Commands.{Does, EndsByAnswer, printing_command};
 ghost use Rattle.cbsrun_lines.specs.Writers.{MayWrite};
 
-use crate::ending::{Stopped, print, status_of};
+use crate::ending::{Stopped, print, status_by_answer};
+use cbs_guarantee::NotPromised;
 use cbsrun_check_text::{check_load, check_plan};
 use cbsrun_io::ByteOutput;
 use cbsrun_loads::{Load, load_in};
+use cbsrun_simulate::SourceTerms;
+use cbsrun_sizing::{ServerLoad, is_within, server_loads};
 use cbsrun_tasks::{FileFault, Found, TaskFile, find_within};
 use std::alloc::{AllocError, Global};
 
@@ -45,21 +50,70 @@ fn check_text(alloc: Global, file: &AnyFile) -> Result<String, AllocError>
     }
 }
 
-/// Prints the text that `check` prints about the file that the bytes spell.
+/// Returns whether so many ticks are promised that they are at most the wanted ones.
+fn is_promised(promised: Result<u64, NotPromised>, within: Option<u64>) -> bool
+    ensures { result ≡ is_promised promised within }
+{
+    match promised {
+        Ok(time) => is_within(time, within),
+        Err(_) => false,
+    }
+}
+
+/// Returns within how many ticks the jobs of a server are promised to be finished, or why they are not.
+fn promised_for(loads: &[ServerLoad], server: u16) -> Result<u64, NotPromised>
+    ensures { result ≡ (get_or loads.now server no_load).promised }
+{
+    match loads.get(usize::from(server)) {
+        Some(load) => load.promised,
+        None => Ok(0),
+    }
+}
+
+/// Returns whether the jobs of each source are promised to be in time, by the figures of the servers.
+fn all_promised(loads: &[ServerLoad], sources: &[SourceTerms]) -> bool
+    ensures { result ≡ all_promised loads.now sources.now }
+{
+    sources.iter().all(|source| is_promised(promised_for(loads, source.server), source.within))
+}
+
+/// Returns whether the jobs of each source of a load are promised to be in time.
+fn sources_are_promised(alloc: Global, load: &Load) -> Result<bool, AllocError>
+    ensures { IfOk result (AreSourcesPromised load.now) }
+{
+    let loads = server_loads(alloc, load)?;
+    Ok(all_promised(&loads, load.sources()))
+}
+
+/// Returns whether the jobs of each source of a file are promised to be in time. A task file has no source.
+fn are_promised(alloc: Global, file: &AnyFile) -> Result<bool, AllocError>
+    ensures { IfOk result (ArePromised file.now) }
+{
+    match file {
+        AnyFile::Load(load) => sources_are_promised(alloc, load),
+        AnyFile::Tasks(_) => Ok(true),
+    }
+}
+
+/// Prints the text that `check` prints about the file that the bytes spell. Returns whether the jobs of each source are
+/// promised to be in time.
 fn check<O: ByteOutput>(
     alloc: Global,
     memory: u64,
     bytes: &[u8],
     out: &mut O,
-) -> Result<(), Stopped>
+) -> Result<bool, Stopped>
     requires { MayWrite (O.state out.old) }
-    ensures { Does (printing_command any_file IsCheckText) bytes.now result (O.state out.old)
-        (O.state out.new) }
+    ensures printed { Does (printing_command any_file IsCheckText) bytes.now result
+        (O.state out.old) (O.state out.new) }
+    ensures answer { IfOk result (λ answer. (f : AnyFile) × (any_file bytes.now ≡ Ok f)
+        × ArePromised f answer) }
 {
     let file = read_any(alloc, memory, bytes)?;
     let text = check_text(alloc, &file)?;
+    let promised = are_promised(alloc, &file)?;
     print(&text, out)?;
-    Ok(())
+    Ok(promised)
 }
 
 /// Checks the load or the task file that the bytes spell, and prints what it holds. The bytes are a load if the top
@@ -68,13 +122,15 @@ fn check<O: ByteOutput>(
 /// At status 0 the whole text is on `out`, and nothing on `err`. At status 3 the file has a fault: the line of the
 /// fault goes to `err`, with an explanation below it, and nothing to `out`. At status 4 the run ended early: the line
 /// of the run fault goes to `err`, and `out` has a prefix of the text. That prefix is empty unless a write failed. A
-/// line that cannot be written changes no status.
+/// line that cannot be written changes no status. If `strict` is true, the status is 1 in the place of 0 if the jobs of
+/// a source are not promised to be in time.
 ///
 /// A file that has to be read as one document may need `memory` bytes of memory. If it needs more, the status is 3, and the
 /// line of out of memory goes to `err`.
 pub fn check_bytes_within<O: ByteOutput, E: ByteOutput>(
     alloc: Global,
     memory: u64,
+    strict: bool,
     name: &str,
     bytes: &[u8],
     out: &mut O,
@@ -82,9 +138,10 @@ pub fn check_bytes_within<O: ByteOutput, E: ByteOutput>(
 ) -> u8
     requires out { MayWrite (O.state out.old) }
     requires err { MayWrite (E.state err.old) }
-    ensures { EndsAs (printing_command any_file IsCheckText) name.now bytes.now
+    ensures { EndsByAnswer (printing_command any_file IsCheckText) ArePromised strict
+        name.now bytes.now
         (O.state out.old) (O.state out.new) (E.state err.old) (E.state err.new) result }
 {
     let ended = check(alloc, memory, bytes, out);
-    status_of(alloc, memory, name, bytes, ended, err)
+    status_by_answer(alloc, memory, strict, name, bytes, ended, err)
 }

@@ -2,7 +2,7 @@
 
 ghost use Rattle.std.specs.Prelude.{◌≡◌};
 ghost use Rattle.cbsrun_toml_tables.specs.Documents.{no_memory};
-ghost use Rattle.cbsrun_commands.specs.Commands.{Tells};
+ghost use Rattle.cbsrun_commands.specs.Commands.{Tells, TellsAnswer, status_done};
 ghost use Rattle.cbsrun_commands.specs.FaultLines.{file_line, Explains, Prints};
 ghost use Rattle.cbsrun_commands.specs.declared.ending.Stopped.TheVariants.{Ended, Run, Unread};
 ghost use Rattle.cbsrun_lines.specs.Writers.{MayWrite, TriesToWrite};
@@ -18,6 +18,9 @@ use std::alloc::{AllocError, Global};
 
 /// The status of a run that is complete, and of a request for help.
 pub const DONE: u8 = 0;
+
+/// The status of a run that is complete, if its answer is no and that is asked for.
+pub const ANSWER_IS_NO: u8 = 1;
 
 /// The status of a wrong command line.
 pub const WRONG_WORDS: u8 = 2;
@@ -136,5 +139,37 @@ pub(crate) fn status_of<E: ByteOutput>(
             let _written = write_run_fault(err, error);
             RUN_FAULT
         }
+    }
+}
+
+/// Returns the status of a command that is done, with this answer. A strict command tells it.
+fn status_done(strict: bool, answer: bool) -> u8
+    ensures { result ≡ status_done strict answer }
+{
+    if strict && !answer {
+        ANSWER_IS_NO
+    } else {
+        DONE
+    }
+}
+
+/// Writes how a command whose answer is yes or no ended, on the file that the bytes spell: nothing if it is done, else why
+/// it stopped. Returns the status. A strict command that is done has the status of its answer.
+pub(crate) fn status_by_answer<E: ByteOutput>(
+    alloc: Global,
+    memory: u64,
+    strict: bool,
+    name: &str,
+    bytes: &[u8],
+    ended: Result<bool, Stopped>,
+    err: &mut E,
+) -> u8
+    requires { MayWrite (E.state err.old) }
+    ensures { TellsAnswer (status_done strict) name.now bytes.now ended
+        (E.state err.old) (E.state err.new) result }
+{
+    match ended {
+        Ok(answer) => status_done(strict, answer),
+        Err(stopped) => status_of(alloc, memory, name, bytes, Err(stopped), err),
     }
 }

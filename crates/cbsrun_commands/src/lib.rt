@@ -15,7 +15,9 @@ mod result_lines;
 mod run;
 mod serve;
 
-pub use cbsrun_command_line::{Action, Asked, Drawing, Form, Verb, Window, WordsFault, read_words};
+pub use cbsrun_command_line::{
+    Action, Asked, Changes, Drawing, Form, LoadReport, Verb, Window, WordsFault, read_words,
+};
 pub use cbsrun_io::{
     ByteInput, ByteOutput, FromRead, MAX_BYTES, ReadError, ToWrite, read_all, write_pieces,
     write_text,
@@ -23,7 +25,7 @@ pub use cbsrun_io::{
 pub use cbsrun_lines::{RunError, replay};
 pub use cbsrun_runs::{NoProgress, Progress};
 pub use check::check_bytes_within;
-pub use ending::{BAD_FILE, DONE, RUN_FAULT, WRONG_WORDS};
+pub use ending::{ANSWER_IS_NO, BAD_FILE, DONE, RUN_FAULT, WRONG_WORDS};
 pub use environment::{MEMORY_VARIABLE, memory_bound};
 pub use fault_lines::{write_file_fault, write_read_fault, write_run_fault};
 pub use load_steps::simulate_lines_within;

@@ -6,26 +6,28 @@ ghost use Rattle.cbsrun_lines.specs.Writers.{MayWrite};
 
 use crate::ending::{Stopped, status_of};
 use crate::reading::load_file;
+use cbsrun_command_line::Changes;
 use cbsrun_io::ByteOutput;
 use cbsrun_lines::write_lines;
 use std::alloc::Global;
 
-/// Simulates the load that the bytes spell, and writes a line for each step.
+/// Simulates the load that the bytes spell, with these changes, and writes a line for each step.
 fn write_steps<O: ByteOutput>(
     alloc: Global,
     memory: u64,
+    changes: Changes,
     bytes: &[u8],
     out: &mut O,
 ) -> Result<(), Stopped>
     requires { MayWrite (O.state out.old) }
-    ensures { Does lines_command bytes.now result (O.state out.old) (O.state out.new) }
+    ensures { Does (lines_command changes) bytes.now result (O.state out.old) (O.state out.new) }
 {
-    let mut load = load_file(alloc, memory, bytes)?;
+    let mut load = load_file(alloc, memory, changes, bytes)?;
     write_lines(alloc, &mut load, out)?;
     Ok(())
 }
 
-/// Simulates the load that the bytes spell, and writes a line for each step. The explanation of a fault names the file
+/// Simulates the load that the bytes spell, with these changes, and writes a line for each step. The explanation of a fault names the file
 /// `name`. Returns the status.
 ///
 /// At status 0 all lines are on `out`, and nothing on `err`. At status 3 the file has a fault, as in
@@ -38,6 +40,7 @@ fn write_steps<O: ByteOutput>(
 pub fn simulate_lines_within<O: ByteOutput, E: ByteOutput>(
     alloc: Global,
     memory: u64,
+    changes: Changes,
     name: &str,
     bytes: &[u8],
     out: &mut O,
@@ -45,9 +48,9 @@ pub fn simulate_lines_within<O: ByteOutput, E: ByteOutput>(
 ) -> u8
     requires out { MayWrite (O.state out.old) }
     requires err { MayWrite (E.state err.old) }
-    ensures { EndsAs lines_command name.now bytes.now
+    ensures { EndsAs (lines_command changes) name.now bytes.now
         (O.state out.old) (O.state out.new) (E.state err.old) (E.state err.new) result }
 {
-    let ended = write_steps(alloc, memory, bytes, out);
+    let ended = write_steps(alloc, memory, changes, bytes, out);
     status_of(alloc, memory, name, bytes, ended, err)
 }

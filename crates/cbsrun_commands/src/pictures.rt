@@ -10,7 +10,7 @@ ghost use Rattle.cbsrun_lines.specs.Writers.{MayWrite};
 use crate::ending::{Stopped, print, status_of};
 use crate::reading::{load_file, task_file};
 use cbsrun_chart::{Picture, Window};
-use cbsrun_command_line::Drawing;
+use cbsrun_command_line::{Changes, Drawing};
 use cbsrun_io::ByteOutput;
 use cbsrun_lines::RunError;
 use cbsrun_perfetto::trace_json;
@@ -50,22 +50,23 @@ fn print_picture<R: Run, P: Progress, O: ByteOutput>(
     print(&text, out)
 }
 
-/// Draws the ticks of a window of the load that the bytes spell.
+/// Draws the ticks of a window of the load that the bytes spell, with these changes.
 fn draw_load<P: Progress, O: ByteOutput>(
     alloc: Global,
     memory: u64,
     drawing: Drawing,
     asked: Window,
+    changes: Changes,
     name: &str,
     bytes: &[u8],
     progress: &mut P,
     out: &mut O,
 ) -> Result<(), Stopped>
     requires { MayWrite (O.state out.old) }
-    ensures { Does (load_drawing drawing asked name.now) bytes.now result (O.state out.old)
+    ensures { Does (load_drawing changes drawing asked name.now) bytes.now result (O.state out.old)
         (O.state out.new) }
 {
-    let mut load = load_file(alloc, memory, bytes)?;
+    let mut load = load_file(alloc, memory, changes, bytes)?;
     let window = shown_of(asked, load.until())?;
     print_picture(alloc, drawing, window, name, &mut load, progress, out)?;
     Ok(())
@@ -103,8 +104,8 @@ fn draw_tasks<O: ByteOutput>(
     Ok(())
 }
 
-/// Simulates the load that the bytes spell, and draws the ticks that are asked for, as far as the run has them. The
-/// drawing names the file `name`. Reports to `progress` now and then how far the simulation is. Returns the status.
+/// Simulates the load that the bytes spell, with these changes. Draws the ticks that are asked for, as far as the run has
+/// them. The drawing names the file `name`. Reports to `progress` now and then how far the simulation is. Returns the status.
 ///
 /// At status 0 the whole drawing is on `out`, and nothing on `err`. At status 2 the load ends at or before the first
 /// tick that is asked for. A line on `err` names that tick and the end, and nothing is on `out`. At status 3 the file
@@ -119,6 +120,7 @@ pub fn draw_load_within<P: Progress, O: ByteOutput, E: ByteOutput>(
     memory: u64,
     drawing: Drawing,
     asked: Window,
+    changes: Changes,
     name: &str,
     bytes: &[u8],
     progress: &mut P,
@@ -127,10 +129,12 @@ pub fn draw_load_within<P: Progress, O: ByteOutput, E: ByteOutput>(
 ) -> u8
     requires out { MayWrite (O.state out.old) }
     requires err { MayWrite (E.state err.old) }
-    ensures { EndsAs (load_drawing drawing asked name.now) name.now bytes.now
+    ensures { EndsAs (load_drawing changes drawing asked name.now) name.now bytes.now
         (O.state out.old) (O.state out.new) (E.state err.old) (E.state err.new) result }
 {
-    let ended = draw_load(alloc, memory, drawing, asked, name, bytes, progress, out);
+    let ended = draw_load(
+        alloc, memory, drawing, asked, changes, name, bytes, progress, out,
+    );
     status_of(alloc, memory, name, bytes, ended, err)
 }
 

@@ -1,14 +1,16 @@
 //! Reports of the runs of loads and task files: from their bytes to a status.
 
-ghost use Rattle.std.specs.Prelude.{◌≡◌, ◌≤◌, IfOk, length, string_bytes};
-ghost use Rattle.cbsrun_commands.specs.Commands.{Does, EndsAs};
+ghost use Rattle.std.specs.Prelude.{◌≡◌, ◌≤◌, IfOk, Ok, length, string_bytes};
+ghost use Rattle.cbsrun_report_json.specs.Json.{all_in_time};
+ghost use Rattle.cbsrun_loads.specs.Loads.{LoadFile};
+ghost use Rattle.cbsrun_commands.specs.Commands.{Does, EndsAs, EndsByAnswer};
 ghost use Rattle.cbsrun_commands.specs.FaultLines.{Prints};
-ghost use Rattle.cbsrun_commands.specs.Outputs.{load_report, task_report, IsRunText, text_in};
+ghost use Rattle.cbsrun_commands.specs.Outputs.{changed_load, load_report, task_report, IsInTime, IsRunInTime, IsRunText, text_in};
 ghost use Rattle.cbsrun_lines.specs.Writers.{MayWrite};
 
-use crate::ending::{Stopped, print, status_of};
+use crate::ending::{Stopped, print, status_by_answer, status_of};
 use crate::reading::{load_file, task_file};
-use cbsrun_command_line::Form;
+use cbsrun_command_line::{Form, LoadReport};
 use cbsrun_io::ByteOutput;
 use cbsrun_lines::RunError;
 use cbsrun_report_json::report_json;
@@ -27,7 +29,15 @@ fn text_of(alloc: Global, form: Form, report: &RunReport) -> Result<String, Allo
     }
 }
 
-/// Makes the steps of a run, and prints its report in this form. The report names the file `name`.
+/// Returns whether no server of a report has a job that is late or was refused.
+fn all_in_time(report: &RunReport) -> bool
+    ensures { result ≡ all_in_time report.now.servers.items }
+{
+    report.servers.iter().all(|server| server.is_in_time())
+}
+
+/// Makes the steps of a run, and prints its report in this form. The report names the file `name`. Returns whether each
+/// job of the run was in time.
 fn print_report<R: Run, P: Progress, O: ByteOutput>(
     alloc: Global,
     form: Form,
@@ -35,15 +45,17 @@ fn print_report<R: Run, P: Progress, O: ByteOutput>(
     run: &mut R,
     progress: &mut P,
     out: &mut O,
-) -> Result<(), RunError>
+) -> Result<bool, RunError>
     requires { MayWrite (O.state out.old) }
-    ensures { Prints (λ text. IsRunText form name.now (R.run run.old) text
+    ensures printed { Prints (λ text. IsRunText form name.now (R.run run.old) text
         × R.lawful run.old) result
         (O.state out.old) (O.state out.new) }
+    ensures answer { IfOk result (IsRunInTime name.now (R.run run.old)) }
 {
     let report = report_of(alloc, name, run, progress)?;
     let text = text_of(alloc, form, &report)?;
-    print(&text, out)
+    print(&text, out)?;
+    Ok(all_in_time(&report))
 }
 
 /// Makes the steps of the task file that the bytes spell, and prints the report of its run in this form.
@@ -93,33 +105,38 @@ pub fn report_bytes_within<O: ByteOutput, E: ByteOutput>(
     status_of(alloc, memory, name, bytes, ended, err)
 }
 
-/// Simulates the load that the bytes spell, and prints the report of its run in this form.
+/// Simulates the load that the bytes spell, as it is asked for, and prints the report of its run. Returns whether each job
+/// of the run was in time.
 fn report_load<P: Progress, O: ByteOutput>(
     alloc: Global,
     memory: u64,
-    form: Form,
+    asked: LoadReport,
     name: &str,
     bytes: &[u8],
     progress: &mut P,
     out: &mut O,
-) -> Result<(), Stopped>
+) -> Result<bool, Stopped>
     requires { MayWrite (O.state out.old) }
-    ensures { Does (load_report form name.now) bytes.now result
+    ensures printed { Does (load_report asked.changes asked.form name.now) bytes.now result
         (O.state out.old) (O.state out.new) }
+    ensures answer { IfOk result (λ answer. (f : LoadFile)
+        × (changed_load asked.changes bytes.now ≡ Ok f) × IsInTime name.now f answer) }
 {
-    let mut load = load_file(alloc, memory, bytes)?;
-    print_report(alloc, form, name, &mut load, progress, out)?;
-    Ok(())
+    let mut load = load_file(alloc, memory, asked.changes, bytes)?;
+    let in_time = print_report(alloc, asked.form, name, &mut load, progress, out)?;
+    Ok(in_time)
 }
 
-/// Simulates the load that the bytes spell, and prints the report of its run in this form. The report names the file
-/// `name`. Reports to `progress` now and then how far the simulation is. Returns the status.
+/// Simulates the load that the bytes spell, with the changes that are asked for, and prints the report of its run in the
+/// form that is asked for. The report names the file `name`. Reports to `progress` now and then how far the simulation
+/// is. Returns the status.
 ///
-/// The statuses are those of [`report_bytes_within`].
+/// The statuses are those of [`report_bytes_within`]. Besides, if `asked` is strict, the status is 1 in the place of 0 if
+/// a job is late or was refused.
 pub fn simulate_bytes_within<P: Progress, O: ByteOutput, E: ByteOutput>(
     alloc: Global,
     memory: u64,
-    form: Form,
+    asked: LoadReport,
     name: &str,
     bytes: &[u8],
     progress: &mut P,
@@ -128,9 +145,10 @@ pub fn simulate_bytes_within<P: Progress, O: ByteOutput, E: ByteOutput>(
 ) -> u8
     requires out { MayWrite (O.state out.old) }
     requires err { MayWrite (E.state err.old) }
-    ensures { EndsAs (load_report form name.now) name.now bytes.now
+    ensures { EndsByAnswer (load_report asked.changes asked.form name.now) (IsInTime name.now)
+        asked.strict name.now bytes.now
         (O.state out.old) (O.state out.new) (E.state err.old) (E.state err.new) result }
 {
-    let ended = report_load(alloc, memory, form, name, bytes, progress, out);
-    status_of(alloc, memory, name, bytes, ended, err)
+    let ended = report_load(alloc, memory, asked, name, bytes, progress, out);
+    status_by_answer(alloc, memory, asked.strict, name, bytes, ended, err)
 }

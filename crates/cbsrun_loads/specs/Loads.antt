@@ -19,6 +19,14 @@ pub record LoadFile : Type 0 where
   pub seed : ℕ
   pub sources : List SourceTerms
 
+-- the load with this seed in place of its own
+abbrev pub with_seed : ℕ → LoadFile → LoadFile
+with_seed seed f = record f { seed = seed }
+
+-- the load with its end at this tick, in place of its own end
+abbrev pub with_until : ℕ → LoadFile → LoadFile
+with_until until f = record f { until = until }
+
 -- the greatest number of sources of a load
 abbrev pub most_sources : ℕ
 most_sources = 65536

@@ -1,7 +1,8 @@
 //! What a load file holds.
 
-ghost use Rattle.std.specs.Prelude.{◌≡◌, map, string_bytes};
-ghost use Rattle.cbsrun_loads.specs.Loads.{IsLoad};
+ghost use Rattle.std.specs.Prelude.{◌≡◌, ◌≤◌, map, string_bytes};
+ghost use Rattle.cbs_rules.specs.Rules.{clock_end};
+ghost use Rattle.cbsrun_loads.specs.Loads.{IsLoad, with_seed, with_until};
 
 use cbs_rate::Plan;
 use cbs_rules::{Modes, Setup};
@@ -98,5 +99,22 @@ impl Load {
         ensures lawful { IsLoad self.now }
     {
         &self.sources
+    }
+    /// Returns the load with this seed in place of its own.
+    pub fn with_seed(mut self, seed: u64) -> Load
+        ensures { result ≡ with_seed seed self }
+    {
+        self.seed = seed;
+        self
+    }
+
+    /// Returns the load with its end at this tick, in place of its own end: 1 to 10^12.
+    pub fn with_until(mut self, until: u64) -> Load
+        requires some { 1 ≤ until }
+        requires few { until ≤ clock_end }
+        ensures { result ≡ with_until until self }
+    {
+        self.until = until;
+        self
     }
 }

@@ -3,8 +3,8 @@
 use super::fakes::{Memory, Outcome};
 use super::same;
 use cbsrun_commands::{
-    Drawing, Form, NoProgress, Window, check_bytes_within, draw_load_within, draw_tasks_within,
-    report_bytes_within, simulate_bytes_within, simulate_lines_within,
+    Changes, Drawing, Form, LoadReport, NoProgress, Window, check_bytes_within, draw_load_within,
+    draw_tasks_within, report_bytes_within, simulate_bytes_within, simulate_lines_within,
 };
 use std::alloc::Global;
 use std::process::Abort;
@@ -78,6 +78,12 @@ enum Asked {
     DrawTasks(Drawing, Window),
 }
 
+/// No changes of a load.
+const NONE: Changes = Changes {
+    seed: None,
+    until: None,
+};
+
 /// Prints what is asked of a file. The file may need `memory` bytes of memory, and the writer has room for `room`
 /// bytes. Returns the outcome.
 fn printed(alloc: Global, asked: Asked, memory: u64, file: &str, room: usize) -> Outcome {
@@ -86,12 +92,16 @@ fn printed(alloc: Global, asked: Asked, memory: u64, file: &str, room: usize) ->
     let bytes = file.as_bytes();
     let name = "a.toml";
     let status = match asked {
-        Asked::Check => check_bytes_within(alloc, memory, name, bytes, &mut out, &mut err),
+        Asked::Check => check_bytes_within(alloc, memory, true, name, bytes, &mut out, &mut err),
         Asked::ReportLoad(form) => {
             simulate_bytes_within(
                 alloc,
                 memory,
-                form,
+                LoadReport {
+                    form,
+                    changes: NONE,
+                    strict: true,
+                },
                 name,
                 bytes,
                 &mut NoProgress,
@@ -100,7 +110,7 @@ fn printed(alloc: Global, asked: Asked, memory: u64, file: &str, room: usize) ->
             )
         }
         Asked::WriteLoadLines => {
-            simulate_lines_within(alloc, memory, name, bytes, &mut out, &mut err)
+            simulate_lines_within(alloc, memory, NONE, name, bytes, &mut out, &mut err)
         }
         Asked::ReportTasks(form) => {
             report_bytes_within(alloc, memory, form, name, bytes, &mut out, &mut err)
@@ -110,6 +120,7 @@ fn printed(alloc: Global, asked: Asked, memory: u64, file: &str, room: usize) ->
             memory,
             drawing,
             ticks,
+            NONE,
             name,
             bytes,
             &mut NoProgress,

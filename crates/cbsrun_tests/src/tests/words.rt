@@ -2,7 +2,9 @@
 //! `scripts/statuses`.
 
 use super::same;
-use cbsrun_commands::{Action, Drawing, Form, Verb, Window, WordsFault, read_words};
+use cbsrun_commands::{
+    Action, Changes, Drawing, Form, LoadReport, Verb, Window, WordsFault, read_words,
+};
 use std::alloc::Global;
 use std::process::Abort;
 
@@ -49,10 +51,30 @@ fn all_ask(rt: &impl Abort, alloc: Global, lines: &[(&str, Action)], file: &str)
     }
 }
 
+/// No changes of a load.
+const NONE: Changes = Changes {
+    seed: None,
+    until: None,
+};
+
+/// The action that reports a load as it is, as text.
+const REPORT: Action = Action::ReportLoad(LoadReport {
+    form: Form::Report,
+    changes: NONE,
+    strict: false,
+});
+
+/// The action that reports a load as it is, as JSON.
+const JSON: Action = Action::ReportLoad(LoadReport {
+    form: Form::Json,
+    changes: NONE,
+    strict: false,
+});
+
 /// Command lines with a verb and a file, and what they ask for.
 const VERBS: [(&str, Action); 4] = [
-    ("cbsrun check a.toml", Action::Check),
-    ("cbsrun simulate a.toml", Action::ReportLoad(Form::Report)),
+    ("cbsrun check a.toml", Action::Check { strict: false }),
+    ("cbsrun simulate a.toml", REPORT),
     ("cbsrun replay a.toml", Action::Run(Verb::Replay)),
     ("cbsrun serve a.toml", Action::Run(Verb::Serve)),
 ];
@@ -61,23 +83,21 @@ const VERBS: [(&str, Action); 4] = [
 fn a_verb_and_a_file_are_wanted(rt: HostRuntime) {
     let alloc = rt.alloc();
     all_ask(&rt, alloc, &VERBS, "a.toml");
-    asks(&rt, alloc, "cbsrun check -", Action::Check, "-");
-    asks(&rt, alloc, "cbsrun check -- -V", Action::Check, "-V");
+    let check = Action::Check { strict: false };
+    asks(&rt, alloc, "cbsrun check -", check, "-");
+    asks(&rt, alloc, "cbsrun check -- -V", check, "-V");
     refuses(&rt, alloc, "", 1, "Usage");
     refuses(&rt, alloc, "cbsrun --help", 2, "Help");
 }
 
 /// Command lines with a form, and what they ask for.
 const FORMS: [(&str, Action); 6] = [
+    ("cbsrun simulate --as report a.toml", REPORT),
+    ("cbsrun simulate a.toml --as json", JSON),
     (
-        "cbsrun simulate --as report a.toml",
-        Action::ReportLoad(Form::Report),
+        "cbsrun simulate --as lines a.toml",
+        Action::WriteLoadLines(NONE),
     ),
-    (
-        "cbsrun simulate a.toml --as json",
-        Action::ReportLoad(Form::Json),
-    ),
-    ("cbsrun simulate --as lines a.toml", Action::WriteLoadLines),
     ("cbsrun replay --as=lines a.toml", Action::Run(Verb::Replay)),
     (
         "cbsrun replay a.toml --as=report",
@@ -101,7 +121,7 @@ fn shows(rt: &impl Abort, alloc: Global, line: &str, from: u64, to: u64) {
         rt,
         alloc,
         line,
-        Action::DrawLoad(Drawing::Svg, ticks),
+        Action::DrawLoad(Drawing::Svg, ticks, NONE),
         "a.toml",
     );
 }
@@ -128,4 +148,49 @@ fn a_picture_shows_ticks(rt: HostRuntime) {
     let tasks = Action::DrawTasks(Drawing::Svg, ticks);
     let line = "cbsrun replay --to 9 a.toml --as svg";
     asks(&rt, alloc, line, tasks, "a.toml");
+}
+
+/// The greatest seed, and the last tick at which a simulation may end.
+const GREATEST: Changes = Changes {
+    seed: Some(9_223_372_036_854_775_807),
+    until: Some(1_000_000_000_000),
+};
+
+/// Command lines whose options change a load, or have the status tell the answer.
+const CHANGED: [(&str, Action); 4] = [
+    (
+        "cbsrun simulate --seed 9223372036854775807 --until=1000000000000 --strict a.toml",
+        Action::ReportLoad(LoadReport {
+            form: Form::Report,
+            changes: GREATEST,
+            strict: true,
+        }),
+    ),
+    (
+        "cbsrun simulate --as json a.toml --seed 0",
+        Action::ReportLoad(LoadReport {
+            form: Form::Json,
+            changes: Changes {
+                seed: Some(0),
+                until: None,
+            },
+            strict: false,
+        }),
+    ),
+    (
+        "cbsrun simulate --as lines --until 1 a.toml",
+        Action::WriteLoadLines(Changes {
+            seed: None,
+            until: Some(1),
+        }),
+    ),
+    (
+        "cbsrun check --strict a.toml",
+        Action::Check { strict: true },
+    ),
+];
+
+#[test]
+fn options_change_a_load(rt: HostRuntime) {
+    all_ask(&rt, rt.alloc(), &CHANGED, "a.toml");
 }

@@ -6,18 +6,23 @@ use Rattle.cbsrun_commands.specs.Outputs.{IsCheckText}
 use Rattle.cbsrun_commands.proofs.Endings.{stops_as}
 use Rattle.cbsrun_commands.proofs.check.check.Goals as goal
 
-pub returns-in_err-file : goal.returns-in_err-file
-returns-in_err-file g c =
+pub returns-in_err-file-clause-printed : goal.returns-in_err-file-clause-printed
+returns-in_err-file-clause-printed g c =
     let p = err_from_is_err_and c.from_residual.result c.from_residual.ensures.1 in
     rw (p.1, p.2) (c.in_err-file.ensures, untouched _)
 
-pub returns-in_err-text : goal.returns-in_err-text
-returns-in_err-text g c =
+pub returns-in_err-text-clause-printed : goal.returns-in_err-text-clause-printed
+returns-in_err-text-clause-printed g c =
     let p = err_from_is_err_and c.from_residual-in_err-text.result c.from_residual-in_err-text.ensures.1 in
     rw (p.1, p.2) (c.in_ok-file.file, c.in_ok-file.ensures, untouched _)
 
-pub returns-in_err-print : goal.returns-in_err-print
-returns-in_err-print g c =
+pub returns-in_err-promised-clause-printed : goal.returns-in_err-promised-clause-printed
+returns-in_err-promised-clause-printed g c =
+    let p = err_from_is_err_and c.from_residual-in_err-promised.result c.from_residual-in_err-promised.ensures.1 in
+    rw (p.1, p.2) (c.in_ok-file.file, c.in_ok-file.ensures, untouched _)
+
+pub returns-in_err-print-clause-printed : goal.returns-in_err-print-clause-printed
+returns-in_err-print-clause-printed g c =
     let p = err_from_is_err_and c.from_residual-in_err-print.result c.from_residual-in_err-print.ensures.1 in
     rw (p.1, p.2) (
       c.in_ok-file.file,
@@ -26,8 +31,8 @@ returns-in_err-print g c =
           c.in_err-print.ensures,
     )
 
-pub returns : goal.returns
-returns g c =
+pub returns-clause-printed : goal.returns-clause-printed
+returns-clause-printed g c =
     let p = c.in_ok-print.ensures in (
       c.in_ok-file.file,
       p.0,
@@ -35,3 +40,6 @@ returns g c =
       subst (λ (x : List ℕ). IsCheckText c.in_ok-file.file x) (sym (p.1 ∙ c.deref.ensures)) c.in_ok-text.ensures,
       p.2,
     )
+
+pub returns-clause-answer : goal.returns-clause-answer
+returns-clause-answer g c = (c.in_ok-file.file, c.in_ok-file.ensures, c.in_ok-promised.ensures)

@@ -4,21 +4,24 @@ use Rattle.cbsrun_lines.specs.Writers.{IsUntouched}
 use Rattle.cbsrun_commands.proofs.Endings.{stops_as}
 use Rattle.cbsrun_commands.proofs.report.report_load.Goals as goal
 
-pub returns-in_err-load : goal.returns-in_err-load
-returns-in_err-load g c =
+pub returns-in_err-load-clause-printed : goal.returns-in_err-load-clause-printed
+returns-in_err-load-clause-printed g c =
     let p = err_from_is_err_and c.from_residual.result c.from_residual.ensures.1 in
     rw (p.1, p.2) (c.in_err-load.ensures, untouched _)
 
-pub returns-in_err-print_report : goal.returns-in_err-print_report
-returns-in_err-print_report g c =
-    let p = err_from_is_err_and c.from_residual-in_err-print_report.result c.from_residual-in_err-print_report.ensures.1 in
+pub returns-in_err-in_time-clause-printed : goal.returns-in_err-in_time-clause-printed
+returns-in_err-in_time-clause-printed g c =
+    let p = err_from_is_err_and c.from_residual-in_err-in_time.result c.from_residual-in_err-in_time.ensures.1 in
     rw (p.1, p.2) (
       c.in_ok-load.load,
       c.in_ok-load.ensures,
-      stops_as _ _ (λ t h. h) IsUntouched _ _ _ (c.in_err-print_report.ensures),
+      stops_as _ _ (λ t h. h) IsUntouched _ _ _ (c.in_err-in_time.ensures.printed),
     )
 
-pub returns : goal.returns
-returns g c =
-    let p = c.in_ok-print_report.ensures in
+pub returns-clause-printed : goal.returns-clause-printed
+returns-clause-printed g c =
+    let p = c.in_ok-in_time.ensures.printed in
     (c.in_ok-load.load, p.0, c.in_ok-load.ensures, p.1, p.2)
+
+pub returns-clause-answer : goal.returns-clause-answer
+returns-clause-answer g c = (c.in_ok-load.load, c.in_ok-load.ensures, c.in_ok-in_time.ensures.answer)

@@ -16,11 +16,11 @@ returns-in_err-print_report g c =
       c.in_ok-tasks.tasks,
       c.in_ok-tasks.ensures,
       stops_as _ _ (λ t h. told_of c.args.form c.args.name.now _ c.in_ok-tasks.tasks t c.of-replay.ensures h.0) IsUntouched _ _ _
-          c.in_err-print_report.ensures,
+          c.in_err-print_report.ensures.printed,
     )
 
 pub returns : goal.returns
 returns g c =
-    let p = c.in_ok-print_report.ensures in
+    let p = c.in_ok-print_report.ensures.printed in
     let told = told_of c.args.form c.args.name.now _ c.in_ok-tasks.tasks p.0 c.of-replay.ensures p.1.0 in
     (c.in_ok-tasks.tasks, p.0, c.in_ok-tasks.ensures, told, p.2)

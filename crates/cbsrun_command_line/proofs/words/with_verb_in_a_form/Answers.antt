@@ -1,8 +1,0 @@
-use Rattle.std.proofs.Common.{◌∙◌, ap}
-use Rattle.std.proofs.lemmas.Result.{IfOk-weaker}
-use Rattle.clap.specs.Words.{App, app_of, with_subcommand}
-use Rattle.cbsrun_command_line.proofs.words.with_verb_in_a_form.Goals as goal
-
-pub returns : goal.returns
-returns c = IfOk-weaker c.subcommand.result _ _ (λ r h. h.shape c.in_ok-verb.ensures.local
-    ∙ ap (λ (a : App). with_subcommand (app_of c.args.program) a.top) c.in_ok-verb.ensures.app) c.subcommand.ensures
