@@ -1,5 +1,5 @@
 -- How a command on a file ends, by what it did and by what was told of it.
-use Rattle.std.proofs.Common.{◌≡◌, List, ℕ, ap, subst, Result, Ok, Err}
+use Rattle.std.proofs.Common.{◌≡◌, List, ℕ, Bool, ap, subst, Result, Ok, Err, inl, inr}
 use Rattle.cbsrun_tasks.specs.Spelling.{file}
 use Rattle.cbsrun_tasks.specs.TaskFiles.{File}
 use Rattle.cbsrun_runs.specs.Runs.{IsPictureOf}
@@ -11,7 +11,7 @@ use Rattle.cbsrun_window.specs.declared.window.Window.{Window}
 use Rattle.cbsrun_lines.specs.Writers.{Writer, IsUntouched}
 use Rattle.cbsrun_lines.specs.declared.run_error.RunError.{RunError}
 use Rattle.cbsrun_lines.specs.declared.run_error.RunError.TheVariants.{OutOfMemory, WriteFault, ClockEnd, Stalled}
-use Rattle.cbsrun_commands.specs.Commands.{Command, Does, EndsAs, Tells, done, nothing_shown, refused, stopped}
+use Rattle.cbsrun_commands.specs.Commands.{Command, Does, EndsAs, Tells, done, closed_pipe, nothing_shown, refused, stopped}
 use Rattle.cbsrun_commands.specs.FaultLines.{Prints, StopsPrinting}
 use Rattle.cbsrun_commands.specs.declared.ending.Stopped.{Stopped}
 use Rattle.cbsrun_commands.specs.declared.ending.Stopped.TheVariants.{Unread, Ended, Run}
@@ -44,9 +44,12 @@ pub drawn_of : (drawing : Drawing) (name : List ℕ) (w : Window) (r f : File) (
 drawn_of drawing name w r f text is drawn = subst (λ (g : File). IsDrawingOf drawing (IsPictureOf name (run_of_tasks g) w) text) is drawn
 
 -- a command ends as it did, and as it was told
-pub ends : {F : Type 0} (c : Command F) (name bytes : List ℕ) (out out' err err' : Writer) (ended : Result (Unit {0}) Stopped) (status : ℕ)
-    → Does c bytes ended out out' → Tells name bytes ended err err' status → EndsAs c name bytes out out' err err' status
-ends c name bytes out out' err err' (Ok x) status d t = rw t.0 (done d.0 d.1 d.2 d.3 d.4 t.1)
-ends c name bytes out out' err err' (Err (Unread fault)) status d t = rw t.0 (refused fault d.0 d.1 t.1)
-ends c name bytes out out' err err' (Err (Ended e)) status d t = rw t.0 (nothing_shown d.0 e d.1 d.2 d.3 t.1)
-ends c name bytes out out' err err' (Err (Run error)) status d t = rw t.0 (stopped d.0 error d.1 d.2 t.1)
+pub ends : {F : Type 0} (c : Command F) (name bytes : List ℕ) (closed : Bool) (out out' err err' : Writer) (ended : Result (Unit {0}) Stopped) (status : ℕ)
+    → Does c bytes ended out out' → Tells name bytes closed ended err err' status → EndsAs c name bytes closed out out' err err' status
+ends c name bytes closed out out' err err' (Ok x) status d t = rw t.0 (done d.0 d.1 d.2 d.3 d.4 t.1)
+ends c name bytes closed out out' err err' (Err (Unread fault)) status d t = rw t.0 (refused fault d.0 d.1 t.1)
+ends c name bytes closed out out' err err' (Err (Ended e)) status d t = rw t.0 (nothing_shown d.0 e d.1 d.2 d.3 t.1)
+ends c name bytes closed out out' err err' (Err (Run error)) status d (inl (broke, is, kept)) =
+    let cut = subst (λ (e : RunError). StopsPrinting (c.prints d.0) (c.short d.0) e out out') broke.0 d.2 in
+    rw is (closed_pipe d.0 cut.0 d.1 cut.1 cut.2 broke.1 kept)
+ends c name bytes closed out out' err err' (Err (Run error)) status d (inr (other, is, told)) = rw is (stopped d.0 error d.1 d.2 other told)

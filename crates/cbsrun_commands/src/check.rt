@@ -65,10 +65,10 @@ fn check<O: ByteOutput>(
 /// Checks the load or the task file that the bytes spell, and prints what it holds. The bytes are a load if the top
 /// table has the key `load`. The explanation of a fault names the file `name`. Returns the status.
 ///
-/// At status 0 the whole text is on `out`, and nothing on `err`. At status 3 the file has a fault: the line of the
-/// fault goes to `err`, with an explanation below it, and nothing to `out`. At status 4 the run ended early: the line
-/// of the run fault goes to `err`, and `out` has a prefix of the text. That prefix is empty unless a write failed. A
-/// line that cannot be written changes no status.
+/// At status 0 the whole text is on `out`, or a prefix of it if a write found a closed pipe, and nothing on `err`. At
+/// status 3 the file has a fault: the line of the fault goes to `err`, with an explanation below it, and nothing to
+/// `out`. At status 4 the run ended early: the line of the run fault goes to `err`, and `out` has a prefix of the text.
+/// That prefix is empty unless a write failed. A line that cannot be written changes no status.
 ///
 /// A file that has to be read as one document may need `memory` bytes of memory. If it needs more, the status is 3, and the
 /// line of out of memory goes to `err`.
@@ -82,9 +82,9 @@ pub fn check_bytes_within<O: ByteOutput, E: ByteOutput>(
 ) -> u8
     requires out { MayWrite (O.state out.old) }
     requires err { MayWrite (E.state err.old) }
-    ensures { EndsAs (printing_command any_file IsCheckText) name.now bytes.now
+    ensures { EndsAs (printing_command any_file IsCheckText) name.now bytes.now (O.closed out.new)
         (O.state out.old) (O.state out.new) (E.state err.old) (E.state err.new) result }
 {
     let ended = check(alloc, memory, bytes, out);
-    status_of(alloc, memory, name, bytes, ended, err)
+    status_of(alloc, memory, name, bytes, ended, out, err)
 }

@@ -2,7 +2,7 @@
 
 ghost use Rattle.std.specs.Prelude.{◌≡◌};
 ghost use Rattle.cbsrun_toml_tables.specs.Documents.{no_memory};
-ghost use Rattle.cbsrun_commands.specs.Commands.{Tells};
+ghost use Rattle.cbsrun_commands.specs.Commands.{Tells, TellsRun};
 ghost use Rattle.cbsrun_commands.specs.FaultLines.{file_line, Explains, Prints};
 ghost use Rattle.cbsrun_commands.specs.declared.ending.Stopped.TheVariants.{Ended, Run, Unread};
 ghost use Rattle.cbsrun_lines.specs.Writers.{MayWrite, TriesToWrite};
@@ -16,7 +16,7 @@ use cbsrun_runs::NothingShown;
 use cbsrun_tasks::{FileFault, FileKind, wants_within};
 use std::alloc::{AllocError, Global};
 
-/// The status of a run that is complete, and of a request for help.
+/// The status of a run that is complete, of one whose output nobody reads any more, and of a request for help.
 pub const DONE: u8 = 0;
 
 /// The status of a wrong command line.
@@ -107,18 +107,33 @@ fn write_explained<E: ByteOutput>(
     }
 }
 
-/// Writes how a command on the file that the bytes spell ended: nothing if it is done, else why it stopped. Returns the
-/// status.
-pub(crate) fn status_of<E: ByteOutput>(
+/// Writes that a run ended early, and returns the status. If a write found a closed pipe, nobody reads the output any
+/// more: then writes nothing, and the status is that of a run that is complete.
+fn status_of_run<E: ByteOutput>(error: RunError, closed: bool, err: &mut E) -> u8
+    requires { MayWrite (E.state err.old) }
+    ensures { TellsRun error closed (E.state err.old) (E.state err.new) result }
+{
+    if closed && error == RunError::WriteFault {
+        return DONE;
+    }
+    let _written = write_run_fault(err, error);
+    RUN_FAULT
+}
+
+/// Writes how a command on the file that the bytes spell ended: nothing if it is done, or if nobody reads the output any
+/// more, else why it stopped. Returns the status.
+pub(crate) fn status_of<O: ByteOutput, E: ByteOutput>(
     alloc: Global,
     memory: u64,
     name: &str,
     bytes: &[u8],
     ended: Result<(), Stopped>,
+    out: &O,
     err: &mut E,
 ) -> u8
     requires { MayWrite (E.state err.old) }
-    ensures { Tells name.now bytes.now ended (E.state err.old) (E.state err.new) result }
+    ensures { Tells name.now bytes.now (O.closed out.now) ended (E.state err.old)
+        (E.state err.new) result }
 {
     let Err(stopped) = ended else {
         return DONE;
@@ -132,9 +147,6 @@ pub(crate) fn status_of<E: ByteOutput>(
             let _written = write_nothing_shown(err, nothing);
             WRONG_WORDS
         }
-        Stopped::Run(error) => {
-            let _written = write_run_fault(err, error);
-            RUN_FAULT
-        }
+        Stopped::Run(error) => status_of_run(error, out.is_closed(), err),
     }
 }
