@@ -2,12 +2,14 @@
 #![tactic(auto)]
 
 mod bytes;
+mod lost;
 mod progress;
 
-ghost use Rattle.std.specs.Prelude.{◌-◌, ◌<◌, ◌^◌};
+ghost use Rattle.std.specs.Prelude.{◌≡◌, ◌-◌, ◌<◌, ◌^◌};
 ghost use Rattle.cbsrun_io.specs.Writers.{MayWrite};
 
-use crate::bytes::{bytes_of, write_reason};
+use crate::bytes::{Unread, bytes_of, write_reason};
+use crate::lost::write_loss;
 use crate::progress::Teller;
 use cbsrun_commands::{
     Action, Asked, BAD_FILE, ByteOutput, DONE, Form, MEMORY_VARIABLE, Progress, RUN_FAULT,
@@ -136,6 +138,27 @@ fn status_of_words(rt: &HostRuntime, fault: WordsFault) -> u8 {
     }
 }
 
+/// Returns whether a fault of an action is explained below its line.
+fn is_explained(action: Action) -> bool {
+    !matches!(action, Action::Run(_))
+}
+
+/// Writes why the file of the command line could not be read, and returns the status.
+fn status_of_unread<E: ByteOutput>(
+    rt: &HostRuntime,
+    asked: &Asked,
+    unread: &Unread,
+    err: &mut E,
+) -> u8
+    requires { (E.state err.old).failed ≡ 0 }
+{
+    let _written = write_read_fault(err, unread.fault());
+    if is_explained(asked.action) {
+        write_reason(rt, rt.alloc(), asked.file.as_str(), unread, err);
+    }
+    BAD_FILE
+}
+
 /// Runs the command that the command line asks for, and returns the status. It serves on `threads`.
 fn status_of<R: Threads + Clock + Sync>(
     rt: &HostRuntime,
@@ -149,29 +172,26 @@ fn status_of<R: Threads + Clock + Sync>(
     let mut out = ToWrite::new(Painted::new(rt.stdout(), alloc, in_out));
     let in_err = colours && rt.stderr().is_terminal();
     let mut err = ToWrite::new(Painted::new(rt.stderr(), alloc, in_err));
-    let name = asked.file.as_str();
-    match bytes_of(rt, alloc, name) {
-        Ok(bytes) => {
-            let mut teller = Teller::new(rt);
-            answered(
-                threads,
-                alloc,
-                memory,
-                asked,
-                &bytes,
-                &mut teller,
-                &mut out,
-                &mut err,
-            )
-        }
-        Err(unread) => {
-            let _written = write_read_fault(&mut err, unread.fault());
-            if !matches!(asked.action, Action::Run(_)) {
-                write_reason(rt, alloc, name, &unread, &mut err);
-            }
-            BAD_FILE
-        }
+    let bytes = match bytes_of(rt, alloc, asked.file.as_str()) {
+        Ok(bytes) => bytes,
+        Err(unread) => return status_of_unread(rt, asked, &unread, &mut err),
+    };
+    let mut teller = Teller::new(rt);
+    let status = answered(
+        threads,
+        alloc,
+        memory,
+        asked,
+        &bytes,
+        &mut teller,
+        &mut out,
+        &mut err,
+    );
+    if status == RUN_FAULT && is_explained(asked.action) {
+        let mut below = ToWrite::new(Painted::new(rt.stderr(), alloc, in_err));
+        write_loss(alloc, &out, &mut below);
     }
+    status
 }
 
 /// Runs the whole program: reads its words, its environment and its file, and runs the command. Returns the status. It

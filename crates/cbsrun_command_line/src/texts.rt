@@ -72,7 +72,8 @@ piece by piece. Another that may want more than 960 MiB of memory is refused, wi
 status 3. CBSRUN_MEMORY, in the environment, is another bound, in MiB.
 
 Exit status:
-  0  done, or this help; also if jobs are late or refused: that is an answer
+  0  done, or this help; also if jobs are late or refused: that is an answer; also if
+     the output is a pipe that was closed, but not with --strict
   1  done, and with --strict a job was late or refused, or is not promised
   2  the command line is wrong, the run ends before the first tick to show, or
      CBSRUN_MEMORY is no whole number

@@ -1,5 +1,5 @@
 -- How a command on a file ends, by what it did and by what was told of it.
-use Rattle.std.proofs.Common.{◌≡◌, Bool, List, ℕ, ap, arith, subst, Result, Ok, Err}
+use Rattle.std.proofs.Common.{◌≡◌, ◌&&◌, not, Bool, true, false, List, ℕ, ap, arith, subst, Result, Ok, Err, inl, inr}
 use Rattle.std.specs.Prelude.{IfOk}
 use Rattle.cbsrun_tasks.specs.Spelling.{file}
 use Rattle.cbsrun_tasks.specs.TaskFiles.{File}
@@ -13,8 +13,8 @@ use Rattle.cbsrun_window.specs.declared.window.Window.{Window}
 use Rattle.cbsrun_lines.specs.Writers.{Writer, IsUntouched}
 use Rattle.cbsrun_lines.specs.declared.run_error.RunError.{RunError}
 use Rattle.cbsrun_lines.specs.declared.run_error.RunError.TheVariants.{OutOfMemory, WriteFault, ClockEnd, Stalled}
-use Rattle.cbsrun_commands.specs.Commands.{Command, Does, EndsAs, EndsByAnswer, Tells, TellsAnswer, answered, done, not_done, nothing_shown}
-use Rattle.cbsrun_commands.specs.Commands.{refused, status_done, stopped}
+use Rattle.cbsrun_commands.specs.Commands.{Command, Does, EndsAs, EndsByAnswer, Tells, TellsAnswer, answered, closed_pipe, done, not_done}
+use Rattle.cbsrun_commands.specs.Commands.{nothing_shown, refused, status_done, stopped}
 use Rattle.cbsrun_commands.specs.FaultLines.{Prints, StopsPrinting}
 use Rattle.cbsrun_commands.specs.declared.ending.Stopped.{Stopped}
 use Rattle.cbsrun_commands.specs.declared.ending.Stopped.TheVariants.{Unread, Ended, Run}
@@ -47,28 +47,40 @@ pub drawn_of : (drawing : Drawing) (name : List ℕ) (w : Window) (r f : File) (
 drawn_of drawing name w r f text is drawn = subst (λ (g : File). IsDrawingOf drawing (IsPictureOf name (run_of_tasks g) w) text) is drawn
 
 -- a command ends as it did, and as it was told
-pub ends : {F : Type 0} (c : Command F) (name bytes : List ℕ) (out out' err err' : Writer) (ended : Result (Unit {0}) Stopped) (status : ℕ)
-    → Does c bytes ended out out' → Tells name bytes ended err err' status → EndsAs c name bytes out out' err err' status
-ends c name bytes out out' err err' (Ok x) status d t = rw t.0 (done d.0 d.1 d.2 d.3 d.4 t.1)
-ends c name bytes out out' err err' (Err (Unread fault)) status d t = rw t.0 (refused fault d.0 d.1 t.1)
-ends c name bytes out out' err err' (Err (Ended e)) status d t = rw t.0 (nothing_shown d.0 e d.1 d.2 d.3 t.1)
-ends c name bytes out out' err err' (Err (Run error)) status d t = rw t.0 (stopped d.0 error d.1 d.2 t.1)
+pub ends : {F : Type 0} (c : Command F) (name bytes : List ℕ) (closed : Bool) (out out' err err' : Writer) (ended : Result (Unit {0}) Stopped) (status : ℕ)
+    → Does c bytes ended out out' → Tells name bytes closed ended err err' status → EndsAs c name bytes closed out out' err err' status
+ends c name bytes closed out out' err err' (Ok x) status d t = rw t.0 (done d.0 d.1 d.2 d.3 d.4 t.1)
+ends c name bytes closed out out' err err' (Err (Unread fault)) status d t = rw t.0 (refused fault d.0 d.1 t.1)
+ends c name bytes closed out out' err err' (Err (Ended e)) status d t = rw t.0 (nothing_shown d.0 e d.1 d.2 d.3 t.1)
+ends c name bytes closed out out' err err' (Err (Run error)) status d (inl (broke, is, kept)) =
+    let cut = subst (λ (e : RunError). StopsPrinting (c.prints d.0) (c.short d.0) e out out') broke.0 d.2 in
+    rw is (closed_pipe d.0 cut.0 d.1 cut.1 cut.2 broke.1 kept)
+ends c name bytes closed out out' err err' (Err (Run error)) status d (inr (other, is, told)) = rw is (stopped d.0 error d.1 d.2 other told)
 
 -- bytes spell one file, of which each answer is one of the file that was found
 answer_of : {F : Type 0} (read : Result F FileFault) (answers : F → Bool → Type 0) (answer : Bool) (f h : F) → read ≡ Ok f → read ≡ Ok h
     → answers h answer → answers f answer
 answer_of {F} read answers answer f h p q told = let same : h ≡ f = cc in subst (λ (g : F). answers g answer) same told
 
+-- with `--strict` no pipe counts as closed
+never_closed : (closed strict : Bool) → (closed && not strict) ≡ true → strict ≡ true → ⊥
+never_closed true true p q = absurd p
+never_closed true false p q = absurd q
+never_closed false strict p q = absurd p
+
 -- a command with an answer ends as it did, and as it was told
-pub ends_by_answer : {F : Type 0} (c : Command F) (answers : F → Bool → Type 0) (strict : Bool) (name bytes : List ℕ) (out out' err err' : Writer)
-    (ended : Result Bool Stopped) (status : ℕ) → Does c bytes ended out out'
-    → IfOk ended (λ answer. (f : F) × (c.read bytes ≡ Ok f) × answers f answer) → TellsAnswer (status_done strict) name bytes ended err err' status
-    → EndsByAnswer c answers strict name bytes out out' err err' status
-ends_by_answer c answers strict name bytes out out' err err' (Ok answer) status d a t =
+pub ends_by_answer : {F : Type 0} (c : Command F) (answers : F → Bool → Type 0) (strict : Bool) (name bytes : List ℕ) (closed : Bool)
+    (out out' err err' : Writer) (ended : Result Bool Stopped) (status : ℕ) → Does c bytes ended out out'
+    → IfOk ended (λ answer. (f : F) × (c.read bytes ≡ Ok f) × answers f answer) → TellsAnswer strict name bytes closed ended err err' status
+    → EndsByAnswer c answers strict name bytes closed out out' err err' status
+ends_by_answer c answers strict name bytes closed out out' err err' (Ok answer) status d a t =
     rw t.0 (answered d.0 d.1 answer d.2 d.3 (answer_of (c.read bytes) answers answer d.0 a.0 d.2 a.1 a.2) d.4 t.1)
-ends_by_answer c answers strict name bytes out out' err err' (Err (Unread fault)) status d a t =
-    rw t.0 (not_done 3 (λ e. absurd (omega arith)) (refused fault d.0 d.1 t.1))
-ends_by_answer c answers strict name bytes out out' err err' (Err (Ended e)) status d a t =
-    rw t.0 (not_done 2 (λ e. absurd (omega arith)) (nothing_shown d.0 e d.1 d.2 d.3 t.1))
-ends_by_answer c answers strict name bytes out out' err err' (Err (Run error)) status d a t =
-    rw t.0 (not_done 4 (λ e. absurd (omega arith)) (stopped d.0 error d.1 d.2 t.1))
+ends_by_answer c answers strict name bytes closed out out' err err' (Err (Unread fault)) status d a t =
+    rw t.0 (not_done 3 (λ is e. absurd (omega arith)) (refused fault d.0 d.1 t.1))
+ends_by_answer c answers strict name bytes closed out out' err err' (Err (Ended e)) status d a t =
+    rw t.0 (not_done 2 (λ is e. absurd (omega arith)) (nothing_shown d.0 e d.1 d.2 d.3 t.1))
+ends_by_answer c answers strict name bytes closed out out' err err' (Err (Run error)) status d a (inl (broke, is, kept)) =
+    not_done status (λ asked e. never_closed closed strict broke.1 asked)
+    (ends c name bytes (closed && not strict) out out' err err' (Err (Run error)) status d (inl (broke, is, kept)))
+ends_by_answer c answers strict name bytes closed out out' err err' (Err (Run error)) status d a (inr (other, is, told)) =
+    rw is (not_done 4 (λ asked e. absurd (omega arith)) (stopped d.0 error d.1 d.2 other told))

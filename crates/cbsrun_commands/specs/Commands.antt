@@ -1,11 +1,12 @@
 -- What a command on a file leaves on its writers, by its result and by its status.
-use Rattle.std.specs.Prelude.{◌≡◌, ◌≢◌, ◌⊎◌, ◌&&◌, ℕ, Bool, not, if◌then◌else◌, List, Result, Ok, Err}
+use Rattle.std.specs.Prelude.{◌≡◌, ◌≢◌, ◌⊎◌, ◌&&◌, ℕ, Bool, true, not, if◌then◌else◌, List, Result, Ok, Err}
 use Rattle.cbsrun_window.specs.declared.shown.NothingShown.{NothingShown}
 use Rattle.cbsrun_toml_tables.specs.Documents.{no_memory}
 use Rattle.cbsrun_toml_tables.specs.declared.fault.FileFault.{FileFault}
-use Rattle.cbsrun_lines.specs.Writers.{Writer, IsUntouched, Writes, TriesToWrite}
+use Rattle.cbsrun_lines.specs.Writers.{Writer, FailsToWrite, IsUntouched, Writes, TriesToWrite}
 use Rattle.cbsrun_commands.specs.FaultLines.{run_line, nothing_shown_line, Explains, StopsPrinting}
 use Rattle.cbsrun_lines.specs.declared.run_error.RunError.{RunError}
+use Rattle.cbsrun_lines.specs.declared.run_error.RunError.TheVariants.{WriteFault}
 use Rattle.cbsrun_commands.specs.declared.ending.Stopped.{Stopped}
 use Rattle.cbsrun_commands.specs.declared.ending.Stopped.TheVariants.{Unread, Ended, Run}
 
@@ -28,40 +29,54 @@ Does {F} c bytes (Err (Unread fault)) old new = ((fault ≡ no_memory) ⊎ (c.re
 Does {F} c bytes (Err (Ended e)) old new = (f : F) × (c.read bytes ≡ Ok f) × c.nothing f e × IsUntouched old new
 Does {F} c bytes (Err (Run error)) old new = (f : F) × (c.read bytes ≡ Ok f) × StopsPrinting (c.prints f) (c.short f) error old new
 
--- how a command on the file with this name and these bytes ended was written, and this is its status
-abbrev pub Tells : List ℕ → List ℕ → Result (Unit {0}) Stopped → Writer → Writer → ℕ → Type 0
-Tells name bytes (Ok x) old new status = (status ≡ 0) × IsUntouched old new
-Tells name bytes (Err (Unread fault)) old new status = (status ≡ 3) × Explains name bytes fault old new
-Tells name bytes (Err (Ended e)) old new status = (status ≡ 2) × TriesToWrite old new (nothing_shown_line e.from e.end)
-Tells name bytes (Err (Run error)) old new status = (status ≡ 4) × TriesToWrite old new (run_line error)
+-- a run ended early by a write that found a closed pipe: nobody reads its output any more
+abbrev pub IsClosedPipe : RunError → Bool → Type 0
+IsClosedPipe error closed = (error ≡ WriteFault) × (closed ≡ true)
 
--- the same of a command whose answer is yes or no, with this status if it is done
-abbrev pub TellsAnswer : (Bool → ℕ) → List ℕ → List ℕ → Result Bool Stopped → Writer → Writer → ℕ → Type 0
-TellsAnswer done name bytes (Ok answer) old new status = (status ≡ done answer) × IsUntouched old new
-TellsAnswer done name bytes (Err stopped) old new status = Tells name bytes (Err stopped) old new status
+-- how a run that ended early was told, with this status: by nothing and 0 at a closed pipe, else by its line and 4
+abbrev pub TellsRun : RunError → Bool → Writer → Writer → ℕ → Type 0
+TellsRun error closed old new status =
+    (IsClosedPipe error closed × (status ≡ 0) × IsUntouched old new)
+    ⊎ ((¬ IsClosedPipe error closed) × (status ≡ 4) × TriesToWrite old new (run_line error))
+
+-- how a command on the file with this name and these bytes ended was told, and this is its status. The last write that
+-- failed found a closed pipe if `closed` is true
+abbrev pub Tells : List ℕ → List ℕ → Bool → Result (Unit {0}) Stopped → Writer → Writer → ℕ → Type 0
+Tells name bytes closed (Ok x) old new status = (status ≡ 0) × IsUntouched old new
+Tells name bytes closed (Err (Unread fault)) old new status = (status ≡ 3) × Explains name bytes fault old new
+Tells name bytes closed (Err (Ended e)) old new status = (status ≡ 2) × TriesToWrite old new (nothing_shown_line e.from e.end)
+Tells name bytes closed (Err (Run error)) old new status = TellsRun error closed old new status
 
 -- the status of a command that is done, with this answer: 1 if `--strict` is given and the answer is no
 abbrev pub status_done : Bool → Bool → ℕ
 status_done strict answer = if strict && not answer then 1 else 0
 
+-- the same of a command whose answer is yes or no. With `--strict` a closed pipe is told as any write that failed
+abbrev pub TellsAnswer : Bool → List ℕ → List ℕ → Bool → Result Bool Stopped → Writer → Writer → ℕ → Type 0
+TellsAnswer strict name bytes closed (Ok answer) old new status = (status ≡ status_done strict answer) × IsUntouched old new
+TellsAnswer strict name bytes closed (Err stopped) old new status = Tells name bytes (closed && not strict) (Err stopped) old new status
+
 -- A command on the file with this name and these bytes ended with this status, and left out and err so. At 0 a text is
--- printed, whole. At 2 there is nothing to show. At 3 the bytes spell no such file, or memory was refused. At 4 the run
--- ended early
-pub data EndsAs {F : Type 0} (c : Command F) (name bytes : List ℕ) (out out' err err' : Writer) : ℕ → Type 0 where
+-- printed, whole, or up to a write that found a closed pipe. At 2 there is nothing to show. At 3 the bytes spell no such
+-- file, or memory was refused. At 4 the run ended early
+pub data EndsAs {F : Type 0} (c : Command F) (name bytes : List ℕ) (closed : Bool) (out out' err err' : Writer) : ℕ → Type 0 where
   done : (f : F) (text : List ℕ) → c.read bytes ≡ Ok f → c.prints f text → Writes out out' text → IsUntouched err err'
-      → EndsAs c name bytes out out' err err' 0
+      → EndsAs c name bytes closed out out' err err' 0
+  closed_pipe : (f : F) (text : List ℕ) → c.read bytes ≡ Ok f → c.prints f text → FailsToWrite out out' text → closed ≡ true
+      → IsUntouched err err' → EndsAs c name bytes closed out out' err err' 0
   nothing_shown : (f : F) (e : NothingShown) → c.read bytes ≡ Ok f → c.nothing f e → IsUntouched out out'
-      → TriesToWrite err err' (nothing_shown_line e.from e.end) → EndsAs c name bytes out out' err err' 2
+      → TriesToWrite err err' (nothing_shown_line e.from e.end) → EndsAs c name bytes closed out out' err err' 2
   refused : (fault : FileFault) → (fault ≡ no_memory) ⊎ (c.read bytes ≡ Err fault) → IsUntouched out out' → Explains name bytes fault err err'
-      → EndsAs c name bytes out out' err err' 3
+      → EndsAs c name bytes closed out out' err err' 3
   stopped : (f : F) (error : RunError) → c.read bytes ≡ Ok f → StopsPrinting (c.prints f) (c.short f) error out out'
-      → TriesToWrite err err' (run_line error) → EndsAs c name bytes out out' err err' 4
+      → ¬ IsClosedPipe error closed → TriesToWrite err err' (run_line error) → EndsAs c name bytes closed out out' err err' 4
 
 -- A command whose answer of a file is yes or no ended with this status, and left out and err so. If it is done, its text
--- is printed whole, and the answer is told by the status if `--strict` is given. Else it ended as any command does
-pub data EndsByAnswer {F : Type 0} (c : Command F) (answers : F → Bool → Type 0) (strict : Bool) (name bytes : List ℕ) (out out' err err' : Writer)
-    : ℕ → Type 0 where
+-- is printed whole, and the answer is told by the status if `--strict` is given. Else it ended as any command does, but
+-- with `--strict` never with the status 0, and so not at a closed pipe
+pub data EndsByAnswer {F : Type 0} (c : Command F) (answers : F → Bool → Type 0) (strict : Bool) (name bytes : List ℕ) (closed : Bool)
+    (out out' err err' : Writer) : ℕ → Type 0 where
   answered : (f : F) (text : List ℕ) (answer : Bool) → c.read bytes ≡ Ok f → c.prints f text → answers f answer → Writes out out' text
-      → IsUntouched err err' → EndsByAnswer c answers strict name bytes out out' err err' (status_done strict answer)
-  not_done : (status : ℕ) → status ≢ 0 → EndsAs c name bytes out out' err err' status
-      → EndsByAnswer c answers strict name bytes out out' err err' status
+      → IsUntouched err err' → EndsByAnswer c answers strict name bytes closed out out' err err' (status_done strict answer)
+  not_done : (status : ℕ) → (strict ≡ true → status ≢ 0) → EndsAs c name bytes (closed && not strict) out out' err err' status
+      → EndsByAnswer c answers strict name bytes closed out out' err err' status

@@ -119,11 +119,13 @@ fn check<O: ByteOutput>(
 /// Checks the load or the task file that the bytes spell, and prints what it holds. The bytes are a load if the top
 /// table has the key `load`. The explanation of a fault names the file `name`. Returns the status.
 ///
-/// At status 0 the whole text is on `out`, and nothing on `err`. At status 3 the file has a fault: the line of the
-/// fault goes to `err`, with an explanation below it, and nothing to `out`. At status 4 the run ended early: the line
-/// of the run fault goes to `err`, and `out` has a prefix of the text. That prefix is empty unless a write failed. A
-/// line that cannot be written changes no status. If `strict` is true, the status is 1 in the place of 0 if the jobs of
-/// a source are not promised to be in time.
+/// At status 0 the whole text is on `out`, or a prefix of it if a write found a closed pipe, and nothing on `err`. At
+/// status 3 the file has a fault: the line of the fault goes to `err`, with an explanation below it, and nothing to
+/// `out`. At status 4 the run ended early: the line of the run fault goes to `err`, and `out` has a prefix of the text.
+/// That prefix is empty unless a write failed. A line that cannot be written changes no status.
+///
+/// If `strict` is true, the status is 1 in the place of 0 if the jobs of a source are not promised to be in time, and a
+/// closed pipe is a write that failed as any other.
 ///
 /// A file that has to be read as one document may need `memory` bytes of memory. If it needs more, the status is 3, and the
 /// line of out of memory goes to `err`.
@@ -139,9 +141,18 @@ pub fn check_bytes_within<O: ByteOutput, E: ByteOutput>(
     requires out { MayWrite (O.state out.old) }
     requires err { MayWrite (E.state err.old) }
     ensures { EndsByAnswer (printing_command any_file IsCheckText) ArePromised strict
-        name.now bytes.now
+        name.now bytes.now (O.closed out.new)
         (O.state out.old) (O.state out.new) (E.state err.old) (E.state err.new) result }
 {
     let ended = check(alloc, memory, bytes, out);
-    status_by_answer(alloc, memory, strict, name, bytes, ended, err)
+    status_by_answer(
+        alloc,
+        memory,
+        strict,
+        name,
+        bytes,
+        ended,
+        out.is_closed(),
+        err,
+    )
 }

@@ -2,7 +2,7 @@
 
 ghost use Rattle.std.specs.Prelude.{◌≡◌};
 ghost use Rattle.cbsrun_toml_tables.specs.Documents.{no_memory};
-ghost use Rattle.cbsrun_commands.specs.Commands.{Tells, TellsAnswer, status_done};
+ghost use Rattle.cbsrun_commands.specs.Commands.{Tells, TellsAnswer, TellsRun, status_done};
 ghost use Rattle.cbsrun_commands.specs.FaultLines.{file_line, Explains, Prints};
 ghost use Rattle.cbsrun_commands.specs.declared.ending.Stopped.TheVariants.{Ended, Run, Unread};
 ghost use Rattle.cbsrun_lines.specs.Writers.{MayWrite, TriesToWrite};
@@ -16,7 +16,7 @@ use cbsrun_runs::NothingShown;
 use cbsrun_tasks::{FileFault, FileKind, wants_within};
 use std::alloc::{AllocError, Global};
 
-/// The status of a run that is complete, and of a request for help.
+/// The status of a run that is complete, of one whose output nobody reads any more, and of a request for help.
 pub const DONE: u8 = 0;
 
 /// The status of a run that is complete, if its answer is no and that is asked for.
@@ -110,18 +110,32 @@ fn write_explained<E: ByteOutput>(
     }
 }
 
-/// Writes how a command on the file that the bytes spell ended: nothing if it is done, else why it stopped. Returns the
-/// status.
+/// Writes that a run ended early, and returns the status. If a write found a closed pipe, nobody reads the output any
+/// more: then writes nothing, and the status is that of a run that is complete.
+fn status_of_run<E: ByteOutput>(error: RunError, closed: bool, err: &mut E) -> u8
+    requires { MayWrite (E.state err.old) }
+    ensures { TellsRun error closed (E.state err.old) (E.state err.new) result }
+{
+    if closed && error == RunError::WriteFault {
+        return DONE;
+    }
+    let _written = write_run_fault(err, error);
+    RUN_FAULT
+}
+
+/// Writes how a command on the file that the bytes spell ended: nothing if it is done, or if nobody reads the output any
+/// more, else why it stopped. The output was found `closed` or not. Returns the status.
 pub(crate) fn status_of<E: ByteOutput>(
     alloc: Global,
     memory: u64,
     name: &str,
     bytes: &[u8],
     ended: Result<(), Stopped>,
+    closed: bool,
     err: &mut E,
 ) -> u8
     requires { MayWrite (E.state err.old) }
-    ensures { Tells name.now bytes.now ended (E.state err.old) (E.state err.new) result }
+    ensures { Tells name.now bytes.now closed ended (E.state err.old) (E.state err.new) result }
 {
     let Err(stopped) = ended else {
         return DONE;
@@ -135,10 +149,7 @@ pub(crate) fn status_of<E: ByteOutput>(
             let _written = write_nothing_shown(err, nothing);
             WRONG_WORDS
         }
-        Stopped::Run(error) => {
-            let _written = write_run_fault(err, error);
-            RUN_FAULT
-        }
+        Stopped::Run(error) => status_of_run(error, closed, err),
     }
 }
 
@@ -154,7 +165,8 @@ fn status_done(strict: bool, answer: bool) -> u8
 }
 
 /// Writes how a command whose answer is yes or no ended, on the file that the bytes spell: nothing if it is done, else why
-/// it stopped. Returns the status. A strict command that is done has the status of its answer.
+/// it stopped. The output was found `closed` or not. Returns the status. A strict command that is done has the status of
+/// its answer, and tells of a closed pipe as of any write that failed.
 pub(crate) fn status_by_answer<E: ByteOutput>(
     alloc: Global,
     memory: u64,
@@ -162,14 +174,18 @@ pub(crate) fn status_by_answer<E: ByteOutput>(
     name: &str,
     bytes: &[u8],
     ended: Result<bool, Stopped>,
+    closed: bool,
     err: &mut E,
 ) -> u8
     requires { MayWrite (E.state err.old) }
-    ensures { TellsAnswer (status_done strict) name.now bytes.now ended
+    ensures { TellsAnswer strict name.now bytes.now closed ended
         (E.state err.old) (E.state err.new) result }
 {
     match ended {
         Ok(answer) => status_done(strict, answer),
-        Err(stopped) => status_of(alloc, memory, name, bytes, Err(stopped), err),
+        Err(stopped) => {
+            let quiet = closed && !strict;
+            status_of(alloc, memory, name, bytes, Err(stopped), quiet, err)
+        }
     }
 }

@@ -107,11 +107,12 @@ fn draw_tasks<O: ByteOutput>(
 /// Simulates the load that the bytes spell, with these changes. Draws the ticks that are asked for, as far as the run has
 /// them. The drawing names the file `name`. Reports to `progress` now and then how far the simulation is. Returns the status.
 ///
-/// At status 0 the whole drawing is on `out`, and nothing on `err`. At status 2 the load ends at or before the first
-/// tick that is asked for. A line on `err` names that tick and the end, and nothing is on `out`. At status 3 the file
-/// has a fault: the line of the fault goes to `err`, with an explanation below it, and nothing to `out`. At status 4
-/// the run ended early: the line of the run fault goes to `err`, and `out` has a prefix of the drawing. That prefix is
-/// empty unless a write failed. A line that cannot be written changes no status.
+/// At status 0 the whole drawing is on `out`, or a prefix of it if a write found a closed pipe, and nothing on `err`. At
+/// status 2 the load ends at or before the first tick that is asked for. A line on `err` names that tick and the end,
+/// and nothing is on `out`. At status 3 the file has a fault: the line of the fault goes to `err`, with an explanation
+/// below it, and nothing to `out`. At status 4 the run ended early: the line of the run fault goes to `err`, and `out`
+/// has a prefix of the drawing. That prefix is empty unless a write failed. A line that cannot be written changes no
+/// status.
 ///
 /// A file that has to be read as one document may need `memory` bytes of memory. If it needs more, the status is 3, and the
 /// line of out of memory goes to `err`.
@@ -130,12 +131,13 @@ pub fn draw_load_within<P: Progress, O: ByteOutput, E: ByteOutput>(
     requires out { MayWrite (O.state out.old) }
     requires err { MayWrite (E.state err.old) }
     ensures { EndsAs (load_drawing changes drawing asked name.now) name.now bytes.now
+        (O.closed out.new)
         (O.state out.old) (O.state out.new) (E.state err.old) (E.state err.new) result }
 {
     let ended = draw_load(
         alloc, memory, drawing, asked, changes, name, bytes, progress, out,
     );
-    status_of(alloc, memory, name, bytes, ended, err)
+    status_of(alloc, memory, name, bytes, ended, out.is_closed(), err)
 }
 
 /// Makes the steps of the task file that the bytes spell. Draws the ticks that are asked for, as far as the run has
@@ -155,9 +157,9 @@ pub fn draw_tasks_within<O: ByteOutput, E: ByteOutput>(
 ) -> u8
     requires out { MayWrite (O.state out.old) }
     requires err { MayWrite (E.state err.old) }
-    ensures { EndsAs (task_drawing drawing asked name.now) name.now bytes.now
+    ensures { EndsAs (task_drawing drawing asked name.now) name.now bytes.now (O.closed out.new)
         (O.state out.old) (O.state out.new) (E.state err.old) (E.state err.new) result }
 {
     let ended = draw_tasks(alloc, memory, drawing, asked, name, bytes, out);
-    status_of(alloc, memory, name, bytes, ended, err)
+    status_of(alloc, memory, name, bytes, ended, out.is_closed(), err)
 }

@@ -80,10 +80,10 @@ fn report_tasks<O: ByteOutput>(
 /// Makes the steps of the task file that the bytes spell, and prints the report of its run in this form. The report
 /// names the file `name`. Returns the status.
 ///
-/// At status 0 the whole report is on `out`, and nothing on `err`. At status 3 the file has a fault: the line of the
-/// fault goes to `err`, with an explanation below it, and nothing to `out`. At status 4 the run ended early: the line
-/// of the run fault goes to `err`, and `out` has a prefix of the report. That prefix is empty unless a write failed. A
-/// line that cannot be written changes no status.
+/// At status 0 the whole report is on `out`, or a prefix of it if a write found a closed pipe, and nothing on `err`. At
+/// status 3 the file has a fault: the line of the fault goes to `err`, with an explanation below it, and nothing to
+/// `out`. At status 4 the run ended early: the line of the run fault goes to `err`, and `out` has a prefix of the
+/// report. That prefix is empty unless a write failed. A line that cannot be written changes no status.
 ///
 /// A file that has to be read as one document may need `memory` bytes of memory. If it needs more, the status is 3, and the
 /// line of out of memory goes to `err`.
@@ -98,11 +98,11 @@ pub fn report_bytes_within<O: ByteOutput, E: ByteOutput>(
 ) -> u8
     requires out { MayWrite (O.state out.old) }
     requires err { MayWrite (E.state err.old) }
-    ensures { EndsAs (task_report form name.now) name.now bytes.now
+    ensures { EndsAs (task_report form name.now) name.now bytes.now (O.closed out.new)
         (O.state out.old) (O.state out.new) (E.state err.old) (E.state err.new) result }
 {
     let ended = report_tasks(alloc, memory, form, name, bytes, out);
-    status_of(alloc, memory, name, bytes, ended, err)
+    status_of(alloc, memory, name, bytes, ended, out.is_closed(), err)
 }
 
 /// Simulates the load that the bytes spell, as it is asked for, and prints the report of its run. Returns whether each job
@@ -146,9 +146,18 @@ pub fn simulate_bytes_within<P: Progress, O: ByteOutput, E: ByteOutput>(
     requires out { MayWrite (O.state out.old) }
     requires err { MayWrite (E.state err.old) }
     ensures { EndsByAnswer (load_report asked.changes asked.form name.now) (IsInTime name.now)
-        asked.strict name.now bytes.now
+        asked.strict name.now bytes.now (O.closed out.new)
         (O.state out.old) (O.state out.new) (E.state err.old) (E.state err.new) result }
 {
     let ended = report_load(alloc, memory, asked, name, bytes, progress, out);
-    status_by_answer(alloc, memory, asked.strict, name, bytes, ended, err)
+    status_by_answer(
+        alloc,
+        memory,
+        asked.strict,
+        name,
+        bytes,
+        ended,
+        out.is_closed(),
+        err,
+    )
 }

@@ -17,7 +17,10 @@ pub struct Memory {
     pub taken: Vec<u8>,
     room: usize,
     step: usize,
+    // The error of a call for which there is no room.
+    full: ErrorKind,
     failed: u64,
+    closed: bool,
 }
 
 impl Memory {
@@ -29,7 +32,23 @@ impl Memory {
             taken: Vec::new(alloc),
             room,
             step,
+            full: ErrorKind::WriteZero,
             failed: 0,
+            closed: false,
+        }
+    }
+
+    /// Returns a pipe that is closed after `room` bytes.
+    pub fn pipe(alloc: Global, room: usize) -> Memory
+        ensures { result.failed ≡ 0 }
+    {
+        Memory {
+            taken: Vec::new(alloc),
+            room,
+            step: usize::MAX,
+            full: ErrorKind::BrokenPipe,
+            failed: 0,
+            closed: false,
         }
     }
 
@@ -48,11 +67,14 @@ impl Memory {
 impl ByteOutput for Memory {
     ghost state = { λ s. record { written = Some s.taken.items; failed = s.failed } };
 
+    ghost closed = { λ s. s.closed };
+
     fn write(&mut self, bytes: &[u8]) -> io::Result<usize> {
         let n = bytes.len().min(self.room).min(self.step);
         if n == 0 && !bytes.is_empty() {
             self.failed += 1;
-            return Err(io::Error::from(ErrorKind::WriteZero));
+            self.closed = self.full == ErrorKind::BrokenPipe;
+            return Err(io::Error::from(self.full));
         }
         match self.taken.extend_from_slice(&bytes[..n]) {
             Ok(()) => {
@@ -61,9 +83,14 @@ impl ByteOutput for Memory {
             }
             Err(_) => {
                 self.failed += 1;
+                self.closed = false;
                 Err(io::Error::from(ErrorKind::OutOfMemory))
             }
         }
+    }
+
+    fn is_closed(&self) -> bool {
+        self.closed
     }
 }
 

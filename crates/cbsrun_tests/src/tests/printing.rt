@@ -1,5 +1,7 @@
 //! Texts that are printed of a file: by `check`, as reports, and as pictures.
 
+ghost use Rattle.std.specs.Prelude.{◌≡◌};
+
 use super::fakes::{Memory, Outcome};
 use super::same;
 use cbsrun_commands::{
@@ -70,8 +72,8 @@ error: `format` is 3, and has to be 1 or 2
 /// The request for a file.
 #[derive(Clone, Copy)]
 enum Asked {
-    Check,
-    ReportLoad(Form),
+    Check { strict: bool },
+    ReportLoad { form: Form, strict: bool },
     WriteLoadLines,
     ReportTasks(Form),
     DrawLoad(Drawing, Window),
@@ -84,23 +86,25 @@ const NONE: Changes = Changes {
     until: None,
 };
 
-/// Prints what is asked of a file. The file may need `memory` bytes of memory, and the writer has room for `room`
-/// bytes. Returns the outcome.
-fn printed(alloc: Global, asked: Asked, memory: u64, file: &str, room: usize) -> Outcome {
-    let mut out = Memory::new(alloc, room, usize::MAX);
+/// Prints what is asked of a file to `out`. The file may need `memory` bytes of memory. Returns the outcome.
+fn printed(alloc: Global, asked: Asked, memory: u64, file: &str, mut out: Memory) -> Outcome
+    requires { out.failed ≡ 0 }
+{
     let mut err = Memory::ample(alloc);
     let bytes = file.as_bytes();
     let name = "a.toml";
     let status = match asked {
-        Asked::Check => check_bytes_within(alloc, memory, true, name, bytes, &mut out, &mut err),
-        Asked::ReportLoad(form) => {
+        Asked::Check { strict } => {
+            check_bytes_within(alloc, memory, strict, name, bytes, &mut out, &mut err)
+        }
+        Asked::ReportLoad { form, strict } => {
             simulate_bytes_within(
                 alloc,
                 memory,
                 LoadReport {
                     form,
                     changes: NONE,
-                    strict: true,
+                    strict,
                 },
                 name,
                 bytes,
@@ -146,17 +150,20 @@ type Printed = (Asked, &'static str, [&'static str; 3]);
 /// repository.
 const PRINTED: [Printed; 6] = [
     (
-        Asked::Check,
+        Asked::Check { strict: true },
         LOAD,
         ["fits: 1/2", "a       soft", "yes, by 2\n"],
     ),
     (
-        Asked::Check,
+        Asked::Check { strict: true },
         TASKS,
         ["fits: 1/2", "server 0  soft", "every 2 ticks.\n"],
     ),
     (
-        Asked::ReportLoad(Form::Report),
+        Asked::ReportLoad {
+            form: Form::Report,
+            strict: true,
+        },
         LOAD,
         ["in time: ", "a.toml, ticks 0 to 4: 2 run", "1   1.0\n"],
     ),
@@ -197,7 +204,7 @@ static DRAWN: [(Drawing, [&str; 3]); 3] = [
 /// Ends the test unless what is printed begins, goes on and ends with these parts.
 fn is_printed(rt: &impl Abort, alloc: Global, asked: Asked, file: &str, parts: [&str; 3]) {
     let [start, part, end] = parts;
-    let outcome = printed(alloc, asked, MEMORY, file, usize::MAX);
+    let outcome = printed(alloc, asked, MEMORY, file, Memory::ample(alloc));
     same(rt, "status", outcome.status, 0);
     let text = str::from_utf8(&outcome.out.taken).unwrap_or("");
     same(rt, text, text.starts_with(start), true);
@@ -222,20 +229,50 @@ fn a_run_is_drawn_up_to_its_end(rt: HostRuntime) {
     }
 }
 
+/// Ends the test unless this prefix of five bytes is what a writer has that takes no more. If it is a closed pipe,
+/// nothing is told; else the fault is.
+fn is_cut(rt: &impl Abort, alloc: Global, asked: Asked, file: &str, prefix: &str) {
+    let small = Memory::new(alloc, 5, usize::MAX);
+    let fault = "cbsrun: run fault 2 WriteFault\n";
+    printed(alloc, asked, MEMORY, file, small).leaves(rt, prefix, 4, prefix, fault);
+    let pipe = Memory::pipe(alloc, 5);
+    printed(alloc, asked, MEMORY, file, pipe).leaves(rt, prefix, 0, prefix, "");
+}
+
 #[test]
 fn a_writer_that_fails_has_a_prefix(rt: HostRuntime) {
     let alloc = rt.alloc();
     let some = ticks(&rt, 0, 4);
-    let fault = "cbsrun: run fault 2 WriteFault\n";
     for (asked, file, prefix) in &[
-        (Asked::Check, LOAD, "fits:"),
-        (Asked::ReportLoad(Form::Json), LOAD, "{\"bac"),
+        (Asked::Check { strict: false }, LOAD, "fits:"),
+        (
+            Asked::ReportLoad {
+                form: Form::Json,
+                strict: false,
+            },
+            LOAD,
+            "{\"bac",
+        ),
         (Asked::WriteLoadLines, LOAD, "@0 su"),
         (Asked::ReportTasks(Form::Report), TASKS, "in ti"),
         (Asked::DrawLoad(Drawing::Svg, some), LOAD, "<svg "),
         (Asked::DrawTasks(Drawing::Trace, some), TASKS, "{\"dis"),
     ] {
-        printed(alloc, *asked, MEMORY, file, 5).leaves(&rt, prefix, 4, prefix, fault);
+        is_cut(&rt, alloc, *asked, file, prefix);
+    }
+}
+
+#[test]
+fn a_strict_answer_is_not_told_by_a_closed_pipe(rt: HostRuntime) {
+    let alloc = rt.alloc();
+    let form = Form::Report;
+    for (asked, prefix) in &[
+        (Asked::Check { strict: true }, "fits:"),
+        (Asked::ReportLoad { form, strict: true }, "in ti"),
+    ] {
+        let pipe = Memory::pipe(alloc, 5);
+        let fault = "cbsrun: run fault 2 WriteFault\n";
+        printed(alloc, *asked, MEMORY, LOAD, pipe).leaves(&rt, prefix, 4, prefix, fault);
     }
 }
 
@@ -243,10 +280,20 @@ fn a_writer_that_fails_has_a_prefix(rt: HostRuntime) {
 /// For the explanation, and for a file with a dotted key, the document is needed.
 fn is_explained(rt: &impl Abort, alloc: Global, asked: Asked, file: &str, explained: &str) {
     same(rt, explained, explained.starts_with(FAULT), true);
-    printed(alloc, asked, MEMORY, file, 0).leaves(rt, explained, 3, "", explained);
-    printed(alloc, asked, 10, file, 0).leaves(rt, "unexplained", 3, "", FAULT);
+    printed(alloc, asked, MEMORY, file, Memory::new(alloc, 0, 1)).leaves(
+        rt, explained, 3, "", explained,
+    );
+    printed(alloc, asked, 10, file, Memory::new(alloc, 0, 1)).leaves(
+        rt,
+        "unexplained",
+        3,
+        "",
+        FAULT,
+    );
     let no_memory = "cbsrun: file fault 7 OutOfMemory at top\n";
-    printed(alloc, asked, 10, "a.b = 1\n", 0).leaves(rt, no_memory, 3, "", no_memory);
+    printed(alloc, asked, 10, "a.b = 1\n", Memory::new(alloc, 0, 1)).leaves(
+        rt, no_memory, 3, "", no_memory,
+    );
 }
 
 #[test]
@@ -256,8 +303,14 @@ fn a_fault_is_explained_if_there_is_memory(rt: HostRuntime) {
     let load = ("load = 2\n", LOAD_EXPLAINED);
     let tasks = ("format = 3\nstep = []\n", TASKS_EXPLAINED);
     for (asked, (file, explained)) in &[
-        (Asked::Check, load),
-        (Asked::ReportLoad(Form::Report), load),
+        (Asked::Check { strict: true }, load),
+        (
+            Asked::ReportLoad {
+                form: Form::Report,
+                strict: true,
+            },
+            load,
+        ),
         (Asked::WriteLoadLines, load),
         (Asked::ReportTasks(Form::Report), tasks),
         (Asked::DrawLoad(Drawing::Text, some), load),

@@ -13,5 +13,4 @@ returns-in-Ended g c = rw (c.in-Err.is, c.in-Ended.is)
     (refl, tries c.write_nothing_shown-written.result _ _ _ c.write_nothing_shown-written.ensures.ok c.write_nothing_shown-written.ensures.err)
 
 pub returns-in-Run : goal.returns-in-Run
-returns-in-Run g c = rw (c.in-Err.is, c.in-Run.is)
-    (refl, tries c.write_run_fault-written.result _ _ _ c.write_run_fault-written.ensures.ok c.write_run_fault-written.ensures.err)
+returns-in-Run g c = rw (c.in-Err.is, c.in-Run.is) c.status_of_run.ensures
