@@ -11,3 +11,4 @@ mod sources;
 
 pub use check::{check_load, check_plan};
 pub use fractions::{append_fraction, append_percent};
+pub use notes::append_why;

@@ -51,8 +51,9 @@ fn append_unfinished(text: &mut String, needed: u64, backlog: u64) -> Result<(),
     )
 }
 
-/// Appends why jobs are not promised in time.
-fn append_why(
+/// Appends why the jobs of a server are not promised in time: they are promised late, or not at all. The only error is
+/// out of memory.
+pub fn append_why(
     text: &mut String,
     backlog: u64,
     within: Option<u64>,

@@ -17,6 +17,7 @@ name_of Serve = codes "serve"
 -- the word of each action
 abbrev pub action_name : Action → List ℕ
 action_name (action.Check strict) = codes "check"
+action_name (action.Size all) = codes "size"
 action_name (action.ReportLoad report) = codes "simulate"
 action_name (action.WriteLoadLines changes) = codes "simulate"
 action_name (action.DrawLoad drawing ticks changes) = codes "simulate"

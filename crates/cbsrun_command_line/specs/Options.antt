@@ -17,7 +17,8 @@ abbrev pub Finds : {A : Type 0} → Option A → (A → Type 0) → Type 0
 Finds {A} found Is = MatchOption found ((x : A) → ¬ (Is x)) Is
 
 -- the texts of the options that are given: the form of the output, the first tick to show, and the tick after the last
--- one; the seed, and the tick at which a simulation ends; whether the status is to tell the answer
+-- one; the seed, and the tick at which a simulation ends; whether the status is to tell the answer; whether each server
+-- is to get a reservation
 pub record Said : Type 0 where
   pub form : Option Text
   pub from : Option Text
@@ -25,6 +26,7 @@ pub record Said : Type 0 where
   pub seed : Option Text
   pub until : Option Text
   pub strict : Option Text
+  pub all : Option Text
 
 -- the text of an option, if it is given
 abbrev pub text_of : Option (Bor Text) → Option Text
@@ -39,6 +41,7 @@ said o = record {
   seed = text_of o.seed;
   until = text_of o.until;
   strict = text_of o.strict;
+  all = text_of o.all;
 }
 
 -- an option without a value is given: `clap` has the text `true` for it, and `false` if it is not given
@@ -83,20 +86,24 @@ AsksPlain name (action.ReportTasks form) = MatchOption name ⊥ (λ n. n ≡ for
 AsksPlain name (action.Run Replay) = MatchOption name ⊤ (λ n. n ≡ codes "lines")
 AsksPlain name _ = ⊥
 
--- which changes of a load an action has, and whether its status tells the answer: only check and a report of a load may
+-- which changes of a load an action has, and whether its status tells the answer: only check and a report of a load may.
+-- Whether each server is to get a reservation
 abbrev pub AsksRest : Said → Action → Type 0
 AsksRest s (action.Check strict) = strict ≡ is_given s.strict
+AsksRest s (action.Size all) = all ≡ is_given s.all
 AsksRest s (action.ReportLoad report) = AsksChanges s.seed s.until report.changes × (report.strict ≡ is_given s.strict)
 AsksRest s (action.WriteLoadLines changes) = AsksChanges s.seed s.until changes × (is_given s.strict ≡ false)
 AsksRest s (action.DrawLoad drawing ticks changes) = AsksChanges s.seed s.until changes × (is_given s.strict ≡ false)
 AsksRest s _ = ⊤
 
--- The form that the options ask for. A drawing has ticks, and the other forms have none. Check and serve have one form
+-- The form that the options ask for. A drawing has ticks, and the other forms have none. Check, size and serve have one
+-- form
 abbrev pub AsksForm : Said → Action → Type 0
 AsksForm s (action.DrawLoad drawing ticks changes) = (s.form ≡ Some (drawing_name drawing)) × AsksTicks s.from s.to ticks
 AsksForm s (action.DrawTasks drawing ticks) = (s.form ≡ Some (drawing_name drawing)) × AsksTicks s.from s.to ticks
 AsksForm s (action.Run Serve) = ⊤
 AsksForm s (action.Check strict) = ⊤
+AsksForm s (action.Size all) = ⊤
 AsksForm s a = AsksPlain s.form a × (s.from ≡ None) × (s.to ≡ None)
 
 -- the options ask for the action

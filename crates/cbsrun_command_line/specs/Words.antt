@@ -49,6 +49,10 @@ bare_program = required (with_version (new_app (codes "cbsrun")))
 abbrev pub checking : App
 checking = with_flag (on_file (codes "check")) (codes "strict")
 
+-- the verb that sizes a sketch
+abbrev pub sizing : App
+sizing = with_flag (on_file (codes "size")) (codes "all")
+
 -- the verb that simulates a load
 abbrev pub simulating : App
 simulating =
@@ -59,11 +63,11 @@ simulating =
 abbrev pub with_verb : App → App → App
 with_verb program verb = with_subcommand program verb.top
 
--- the program, which has four subcommands
+-- the program, which has five subcommands
 abbrev pub command_line : App
 command_line =
-    let replaying = with_verb (with_verb (with_verb bare_program checking) simulating) (in_a_form (codes "replay")) in
-    with_verb replaying (on_file (codes "serve"))
+    let planning = with_verb (with_verb (with_verb bare_program checking) sizing) simulating in
+    with_verb (with_verb planning (in_a_form (codes "replay"))) (on_file (codes "serve"))
 
 -- the texts that the rows of a subcommand give for its options
 abbrev pub said_in : List Row → Said
@@ -74,6 +78,7 @@ said_in rows = record {
   seed = first_of (codes "seed") rows;
   until = first_of (codes "until") rows;
   strict = first_of (codes "strict") rows;
+  all = first_of (codes "all") rows;
 }
 
 -- the subcommand that was found asks, with its rows, for the action and the file

@@ -71,6 +71,11 @@ pub enum Action {
         /// Whether the status is 1 if the jobs of a source are not promised to be in time.
         strict: bool,
     },
+    /// The load file of a sketch, with a reservation for each server.
+    Size {
+        /// Whether each server gets one, also if it has one.
+        all: bool,
+    },
     /// The simulation of a load, with this report.
     ReportLoad(LoadReport),
     /// The simulation of a load with these changes, with a line for each step.

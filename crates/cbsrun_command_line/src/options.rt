@@ -27,6 +27,8 @@ pub(crate) struct Options<'a> {
     pub until: Option<&'a str>,
     /// Whether the status is to tell the answer: `true` if so.
     pub strict: Option<&'a str>,
+    /// Whether each server is to get a reservation: `true` if so.
+    pub all: Option<&'a str>,
 }
 
 /// Returns the tick that an option gives, or `otherwise` if the option is not there. Returns `None` if its text is no
@@ -187,6 +189,9 @@ pub(crate) fn action_of(name: &str, options: Options<'_>) -> Option<Action>
     match name {
         "check" => Some(Action::Check {
             strict: is_given(options.strict),
+        }),
+        "size" => Some(Action::Size {
+            all: is_given(options.all),
         }),
         "simulate" => simulated_with(options),
         "replay" => replayed_with(options),

@@ -13,8 +13,8 @@ of each, what is guaranteed, and the exit statuses.";
 
 pub(crate) const GUIDE: &str = "\
 FILE is a task file or a load, in TOML; - is standard input, and ./- a file of that
-name. simulate takes a load, replay and serve a task file, and check either. A load
-says which jobs come, and how often:
+name. simulate and size take a load, replay and serve a task file, and check either.
+A load says which jobs come, and how often:
 
   load = 1
   bound = [1, 1]                           # the bandwidths add up to at most 1/1
@@ -29,6 +29,7 @@ says which jobs come, and how often:
     { server = \"camera\", every = 20, units = [3, 6] },        # 3 to 6 units a job
   ]
 
+size takes it also with no budget and period for some servers, and proposes them.
 Saved as LOAD.toml, it is checked, simulated and drawn by
   cbsrun check LOAD.toml
   cbsrun simulate LOAD.toml
@@ -74,7 +75,8 @@ status 3. CBSRUN_MEMORY, in the environment, is another bound, in MiB.
 Exit status:
   0  done, or this help; also if jobs are late or refused: that is an answer; also if
      the output is a pipe that was closed, but not with --strict
-  1  done, and with --strict a job was late or refused, or is not promised
+  1  done, and with --strict a job was late or refused, or is not promised; or size
+     found no load in which each job is promised in time
   2  the command line is wrong, the run ends before the first tick to show, or
      CBSRUN_MEMORY is no whole number
   3  the file could not be read, or has a fault
@@ -84,6 +86,12 @@ Exit status:
 pub(crate) const CHECK: &str =
     "Says what the servers of a file have and could have, and which jobs of a load \
 are in time always; or what is wrong with the file";
+
+pub(crate) const SIZE: &str =
+    "Writes a load with a reservation for each server that has none: the one of least share that \
+promises its jobs in time";
+
+pub(crate) const ALL: &str = "Each server gets a reservation, also if it has one";
 
 pub(crate) const SIMULATE: &str =
     "Releases the jobs of a load's sources, runs them, and reports, draws, or writes a line for each step";

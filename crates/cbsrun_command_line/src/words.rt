@@ -4,14 +4,14 @@ ghost use Rattle.std.specs.Prelude.{◌≡◌, ◌≢◌, codes, IfOk, IfErr, fa
 ghost use Rattle.clap.specs.Words.{app_of, kind_of, subcommand_rows_of};
 ghost use Rattle.clap.specs.declared.builder.command.Command.TheViews.{out-Command};
 ghost use Rattle.cbsrun_command_line.specs.Faults.{number_of, words_fault_number};
-ghost use Rattle.cbsrun_command_line.specs.Words.{command_line, checking, simulating, on_file, in_a_form, with_option, with_flag, with_verb, bare_program, IsAsked, Names, AreTaken, TellsOf};
+ghost use Rattle.cbsrun_command_line.specs.Words.{command_line, checking, simulating, sizing, on_file, in_a_form, with_option, with_flag, with_verb, bare_program, IsAsked, Names, AreTaken, TellsOf};
 ghost use Rattle.cbsrun_command_line.specs.declared.fault.WordsFault.TheVariants.{OutOfMemory};
 
 use crate::actions::Asked;
 use crate::fault::WordsFault;
 use crate::options::{Options, action_of, wrong_options};
 use crate::texts::{
-    ABOUT, CHECK, FILES, FROM, GUIDE, IN_TIME, PROMISED, REPLAY, REPORTS, SEED, SERVE, SIMULATE,
+    ABOUT, ALL, CHECK, FILES, FROM, GUIDE, IN_TIME, PROMISED, REPLAY, REPORTS, SEED, SERVE, SIMULATE, SIZE,
     TO, TRACES, UNTIL, VERSION,
 };
 use clap::error::ErrorKind;
@@ -85,6 +85,15 @@ fn checking<'a>(alloc: Global) -> Result<Command<'a>, AllocError>
     with_flag(alloc, verb, "strict", PROMISED)
 }
 
+/// Returns the verb that sizes a sketch.
+fn sizing<'a>(alloc: Global) -> Result<Command<'a>, AllocError>
+    ensures app { IfOk result (λ c. app_of c ≡ sizing) }
+    ensures local { IfOk result (λ c. (out-Command c).has_globals ≡ false) }
+{
+    let verb = on_file(alloc, "size", SIZE)?;
+    with_flag(alloc, verb, "all", ALL)
+}
+
 /// Returns the verb that simulates a load.
 fn simulating<'a>(alloc: Global) -> Result<Command<'a>, AllocError>
     ensures app { IfOk result (λ c. app_of c ≡ simulating) }
@@ -121,10 +130,12 @@ fn command_line<'a>(alloc: Global) -> Result<Command<'a>, AllocError>
     ensures { IfOk result (λ c. app_of c ≡ command_line) }
 {
     let check = checking(alloc)?;
+    let size = sizing(alloc)?;
     let simulate = simulating(alloc)?;
     let replay = in_a_form(alloc, "replay", REPLAY, TRACES)?;
     let serve = on_file(alloc, "serve", SERVE)?;
     let program = with_verb(bare_program(alloc), check)?;
+    let program = with_verb(program, size)?;
     let program = with_verb(program, simulate)?;
     let program = with_verb(program, replay)?;
     with_verb(program, serve)
@@ -181,6 +192,7 @@ fn asked_in(alloc: Global, matches: &ArgMatches) -> Result<Asked, WordsFault>
     let seed = inner.get_str("seed");
     let until = inner.get_str("until");
     let strict = inner.get_str("strict");
+    let all = inner.get_str("all");
     let options = Options {
         form,
         from,
@@ -188,6 +200,7 @@ fn asked_in(alloc: Global, matches: &ArgMatches) -> Result<Asked, WordsFault>
         seed,
         until,
         strict,
+        all,
     };
     let Some(action) = action_of(name, options) else {
         return Err(wrong_options(alloc, name, options)?);

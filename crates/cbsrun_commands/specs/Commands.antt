@@ -1,5 +1,5 @@
 -- What a command on a file leaves on its writers, by its result and by its status.
-use Rattle.std.specs.Prelude.{◌≡◌, ◌≢◌, ◌⊎◌, ◌&&◌, ℕ, Bool, true, not, if◌then◌else◌, List, Result, Ok, Err}
+use Rattle.std.specs.Prelude.{◌≡◌, ◌≢◌, ◌⊎◌, ◌&&◌, ℕ, Bool, true, not, if◌then◌else◌, List, Option, Some, None, Result, Ok, Err}
 use Rattle.cbsrun_window.specs.declared.shown.NothingShown.{NothingShown}
 use Rattle.cbsrun_toml_tables.specs.Documents.{no_memory}
 use Rattle.cbsrun_toml_tables.specs.declared.fault.FileFault.{FileFault}
@@ -80,3 +80,18 @@ pub data EndsByAnswer {F : Type 0} (c : Command F) (answers : F → Bool → Typ
       → IsUntouched err err' → EndsByAnswer c answers strict name bytes closed out out' err err' (status_done strict answer)
   not_done : (status : ℕ) → (strict ≡ true → status ≢ 0) → EndsAs c name bytes (closed && not strict) out out' err err' status
       → EndsByAnswer c answers strict name bytes closed out out' err err' status
+
+-- what a command that may find nothing to print left on the output, by its result: with no reason a whole text. With a
+-- reason there is none, and `lacks` says so
+abbrev pub DoesOrLacks : {F A : Type 0} → Command F → (F → Type 0) → List ℕ → Result (Option A) Stopped → Writer → Writer → Type 0
+DoesOrLacks c lacks bytes (Ok None) old new = Does c bytes (Ok tt) old new
+DoesOrLacks {F} c lacks bytes (Ok (Some why)) old new = (f : F) × (c.read bytes ≡ Ok f) × lacks f × IsUntouched old new
+DoesOrLacks {F} {A} c lacks bytes (Err stopped) old new = Does {F} {A} c bytes (Err stopped) old new
+
+-- A command that may find nothing to print ended with this status, and left out and err so. If there is a text, it ended
+-- as any command does. Else the status is 1, and what is written to err may be cut short
+pub data EndsOrLacks {F : Type 0} (c : Command F) (lacks : F → Type 0) (name bytes : List ℕ) (closed : Bool) (out out' err err' : Writer)
+    : ℕ → Type 0 where
+  ended : (status : ℕ) → EndsAs c name bytes closed out out' err err' status → EndsOrLacks c lacks name bytes closed out out' err err' status
+  lacking : (f : F) (told : List ℕ) → c.read bytes ≡ Ok f → lacks f → IsUntouched out out' → TriesToWrite err err' told
+      → EndsOrLacks c lacks name bytes closed out out' err err' 1

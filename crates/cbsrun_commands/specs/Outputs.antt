@@ -16,6 +16,9 @@ use Rattle.cbsrun_commands.specs.declared.check.AnyFile.TheVariants.{Load, Tasks
 use Rattle.cbsrun_toml_tables.specs.Fields.{◌>>=◌, seen}
 use Rattle.cbsrun_toml_tables.specs.declared.fault.FileFault.{FileFault}
 use Rattle.cbsrun_loads.specs.Loads.{LoadFile, with_seed, with_until}
+use Rattle.cbsrun_loads.specs.Sketches.{SketchFile, sketch}
+use Rattle.cbsrun_sized.specs.Sized.{IsSized, IsWhyNot}
+use Rattle.cbsrun_sized.specs.declared.not_sized.NotSized.{NotSized}
 use Rattle.cbsrun_lines.specs.Traces.{AreLoadLines, WritesSomeLines}
 use Rattle.cbsrun_runs.specs.Loads.{seen_in, run_of, IsKept}
 use Rattle.cbsrun_commands.specs.Commands.{Command, printing_command}
@@ -74,6 +77,14 @@ changed changes f = with_until (unwrap_or changes.until f.until) (with_seed (unw
 -- the load that the bytes spell, so changed
 abbrev pub changed_load : Changes → List ℕ → Result LoadFile FileFault
 changed_load changes bytes = seen (changed changes) (load bytes)
+
+-- the command that prints a sketch with a reservation for each server, as a load file
+abbrev pub size_command : Bool → Command SketchFile
+size_command all = printing_command sketch (λ k. IsSized k all)
+
+-- there is a reason why the sketch is not sized
+abbrev pub IsNotSized : Bool → SketchFile → Type 0
+IsNotSized all k = (why : NotSized) × IsWhyNot k all why
 
 -- the command that writes the lines of a load while they are made
 abbrev pub lines_command : Changes → Command LoadFile

@@ -19,7 +19,7 @@ use std::alloc::{AllocError, Global};
 /// The status of a run that is complete, of one whose output nobody reads any more, and of a request for help.
 pub const DONE: u8 = 0;
 
-/// The status of a run that is complete, if its answer is no and that is asked for.
+/// The status of a command that is done, if its answer is no: with `--strict`, and of a sketch that is not sized.
 pub const ANSWER_IS_NO: u8 = 1;
 
 /// The status of a wrong command line.

@@ -14,6 +14,7 @@ mod report;
 mod result_lines;
 mod run;
 mod serve;
+mod size;
 
 pub use cbsrun_command_line::{
     Action, Asked, Changes, Drawing, Form, LoadReport, Verb, Window, WordsFault, read_words,
@@ -33,3 +34,4 @@ pub use pictures::{draw_load_within, draw_tasks_within};
 pub use report::{report_bytes_within, simulate_bytes_within};
 pub use run::{run_bytes, run_bytes_within};
 pub use serve::serve_file;
+pub use size::size_bytes_within;

@@ -2,12 +2,13 @@
 
 ghost use Rattle.cbsrun_tasks.specs.Spelling.{file};
 ghost use Rattle.std.specs.Prelude.{◌≡◌};
+ghost use Rattle.cbsrun_loads.specs.Sketches.{sketch};
 ghost use Rattle.cbsrun_commands.specs.Outputs.{changed, changed_load};
 ghost use Rattle.cbsrun_toml_tables.specs.Documents.{no_memory};
 ghost use Rattle.cbsrun_toml_tables.specs.Fields.{Gives};
 
 use cbsrun_command_line::Changes;
-use cbsrun_loads::{Load, read_load_within};
+use cbsrun_loads::{Load, Sketch, read_load_within, read_sketch_within};
 use cbsrun_tasks::{FileFault, TaskFile, read_file_within};
 use std::alloc::Global;
 
@@ -25,6 +26,14 @@ fn written_load(alloc: Global, memory: u64, bytes: &[u8]) -> Result<Load, FileFa
     ensures { Gives no_memory (λ f. f) result (load bytes.now) }
 {
     read_load_within(alloc, memory, bytes).into_result()
+}
+
+/// Returns the sketch that the bytes spell, or its first fault. If it has to be read as one document that needs more than
+/// `memory` bytes of memory, returns out of memory.
+pub(crate) fn sketch_file(alloc: Global, memory: u64, bytes: &[u8]) -> Result<Sketch, FileFault>
+    ensures { Gives no_memory (λ k. k) result (sketch bytes.now) }
+{
+    read_sketch_within(alloc, memory, bytes).into_result()
 }
 
 /// Returns a load with what takes the place of its own seed and its own end.

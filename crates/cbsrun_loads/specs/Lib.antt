@@ -1,5 +1,6 @@
 pub mod Loads
 pub mod Servers
+pub mod Sketches
 pub mod Sources
 pub mod Spelling
 pub mod TopTables

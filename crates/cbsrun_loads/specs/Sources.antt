@@ -86,9 +86,9 @@ source_fields entry = do
   })
 
 -- The source that the values spell, or the fault that one is out of range. If they are left out, `first` and `overrun`
--- are 0, the number of `jobs` has no limit, and `within` is the server's period.
-unfoldable pub spelled_by : List (List ℕ) → List Rate → FieldsData → Result SourceTerms FileKind
-spelled_by names rates f = do
+-- are 0, and the number of `jobs` and the ticks `within` which each is to be finished have no limit.
+unfoldable pub spelled_by : List (List ℕ) → FieldsData → Result SourceTerms FileKind
+spelled_by names f = do
   server ← server_named names f.server
   first ← of_some (within 0 clock_end) f.first
   every ← range_within 1 clock_end f.every
@@ -102,15 +102,31 @@ spelled_by names rates f = do
     every = every;
     units = units;
     jobs = jobs;
-    within = Some (unwrap_or deadline (period_at rates server));
+    within = deadline;
     overrun = unwrap_or overrun (record { least = 0; greatest = 0 });
   })
 
--- the source of an entry, in a file with servers of these names and reservations
-abbrev pub source_entry : List (List ℕ) → List Rate → Data → Result SourceTerms FileKind
-source_entry names rates entry = do
+-- the source with each job to be finished within so many ticks, if it does not say within how many
+abbrev pub due_within : ℕ → SourceTerms → SourceTerms
+due_within ticks t = record t { within = Some (unwrap_or t.within ticks) }
+
+-- the source of an entry, in a file with servers of these names. It may not say within how many ticks its jobs are to be
+-- finished
+abbrev pub terms_entry : List (List ℕ) → Data → Result SourceTerms FileKind
+terms_entry names entry = do
   fields ← source_fields entry
-  spelled_by names rates fields
+  spelled_by names fields
+
+-- the source of an entry, in a file with servers of these names, which say within how many ticks the jobs of a source are
+-- to be finished, if the entry does not
+abbrev pub source_entry : List (List ℕ) → (SourceTerms → ℕ) → Data → Result SourceTerms FileKind
+source_entry names due entry = do
+  terms ← terms_entry names entry
+  Ok (due_within (due terms) terms)
+
+-- in a load a job is to be finished within its server's period
+abbrev pub due_in_plan : List Rate → SourceTerms → ℕ
+due_in_plan rates t = period_at rates t.server
 
 -- the values of the keys, as the code holds them
 abbrev pub fields_view : SourceFields → FieldsData

@@ -14,7 +14,7 @@ use Rattle.cbsrun_toml_tables.specs.Documents.{at, document, has_key, taken_in}
 use Rattle.cbsrun_toml_tables.specs.Fields.{◌>>=◌, each_from}
 use Rattle.cbsrun_loads.specs.Loads.{LoadFile}
 use Rattle.cbsrun_loads.specs.Servers.{server_entry}
-use Rattle.cbsrun_loads.specs.Sources.{source_entry}
+use Rattle.cbsrun_loads.specs.Sources.{due_in_plan, source_entry}
 use Rattle.cbsrun_loads.specs.TopTables.{top_table}
 
 -- whether the file is a load: its top table has the key `load`
@@ -52,7 +52,7 @@ unfoldable pub load_in : Members → Result LoadFile FileFault
 load_in table = do
   top ← at Top (top_table table)
   servers ← taken_in admitted_entry 0 (record { names = []; setup = no_servers top.bound }) top.servers
-  sources ← each_from 0 (λ i entry. at (Source i) (source_entry servers.names servers.setup.plan.rates entry)) top.sources
+  sources ← each_from 0 (λ i entry. at (Source i) (source_entry servers.names (due_in_plan servers.setup.plan.rates) entry)) top.sources
   Ok (record {
     names = servers.names;
     modes = servers.setup.modes;

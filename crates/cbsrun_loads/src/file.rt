@@ -15,9 +15,9 @@ ghost use Rattle.cbsrun_loads.specs.Spelling.{admitted_entry, load, load_in, nam
 
 use crate::load::Load;
 use crate::server::{is_taken, server_entry};
-use crate::source::source_entry;
+use crate::source::{Due, source_entry};
 use crate::top::top_table;
-use cbs_rate::{Bound, Plan};
+use cbs_rate::Bound;
 use cbs_rules::Setup;
 use cbsrun_simulate::SourceTerms;
 use cbsrun_toml_tables::{
@@ -75,24 +75,24 @@ fn servers_of(
     Ok((names, setup))
 }
 
-/// Returns the sources of the entries of `source`, in a file with servers of these names and this plan.
-fn sources_of(
+/// Returns the sources of the entries of `source`, in a file with servers of these names.
+pub fn sources_of<D: Due>(
     alloc: Global,
     names: &[String],
-    plan: &Plan,
+    servers: &D,
     entries: &[Value],
 ) -> Result<Vec<SourceTerms>, FileFault>
     requires few { length names.now ≤ most_servers }
-    requires named { length names.now ≡ length plan.now.rates }
+    requires named { length names.now ≡ D.servers servers.now }
     ensures sources { Gives no_memory (λ v. v.items) result
         (each_from 0 (λ i e. at (AtSource i) (source_entry (map string_bytes names.now)
-        plan.now.rates e)) (map view entries.now)) }
+        (D.due servers.now) e)) (map view entries.now)) }
     ensures lawful { IfOk result (λ v. All (IsSource (length names.now)) v.items) }
     ensures count { IfOk result (λ v. length v.items ≡ length entries.now) }
 {
     let mut sources = Vec::new(alloc);
     for (i, entry) in entries.iter().enumerate() {
-        let source = at(Place::Source(i as u64), source_entry(names, plan, entry))?;
+        let source = at(Place::Source(i as u64), source_entry(names, servers, entry))?;
         let Ok(()) = sources.push(source) else {
             return Err(faulty(Place::Top, FileKind::OutOfMemory));
         };

@@ -5,9 +5,14 @@
 mod file;
 mod load;
 mod server;
+mod sketch;
+mod sketch_file;
+mod sketch_server;
 mod source;
 mod top;
 
 pub use file::{load_in, read_load, read_load_within};
 pub use load::Load;
+pub use sketch::{Given, ServerSketch, Sketch};
+pub use sketch_file::read_sketch_within;
 pub use top::MAX_SOURCES;

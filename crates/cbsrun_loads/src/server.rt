@@ -37,7 +37,7 @@ fn are_name_bytes(bytes: &[u8]) -> bool
 }
 
 /// Returns the name, if it is 1 to [`MAX_NAME`] letters, digits, `-` and `_`. Refuses any other as out of range.
-fn name_of(name: &str) -> Result<&str, FileKind>
+pub fn name_of(name: &str) -> Result<&str, FileKind>
     ensures { seen (λ s. s.now) result ≡ name_of name.now }
 {
     let bytes = name.as_bytes();

@@ -1,12 +1,13 @@
 //! One source of a load file.
 
-ghost use Rattle.std.specs.Prelude.{◌≡◌, ◌≤◌, ◌<◌, length, map, bytes_eq, string_bytes, IfOk, IfSome};
+ghost use Rattle.std.specs.Prelude.{◌≡◌, ◌≤◌, ◌<◌, ℕ, length, map, bytes_eq, string_bytes, IfOk, IfSome};
 ghost use Rattle.std.specs.List.{position};
 ghost use Rattle.toml.specs.View.{view, table_view};
 ghost use Rattle.cbs_rate.specs.Limits.{most_servers};
 ghost use Rattle.cbsrun_toml_tables.specs.Fields.{seen, of_some};
+ghost use Rattle.cbsrun_simulate.specs.declared.terms.SourceTerms.{SourceTerms};
 ghost use Rattle.cbsrun_loads.specs.Loads.{IsSource};
-ghost use Rattle.cbsrun_loads.specs.Sources.{two_numbers, numbers_at, optional_numbers_at, range_within, server_named, period_at, source_fields, spelled_by, source_entry, fields_view};
+ghost use Rattle.cbsrun_loads.specs.Sources.{two_numbers, numbers_at, optional_numbers_at, range_within, server_named, period_at, source_fields, due_in_plan, due_within, spelled_by, source_entry, terms_entry, fields_view};
 
 use cbs_job::MAX_UNITS;
 use cbs_rate::{MAX_PERIOD, Plan};
@@ -149,16 +150,10 @@ fn source_fields(entry: &Value) -> Result<SourceFields<'_>, FileKind>
 
 /// Returns the source that the values spell, each in its range.
 #[tactic(auto, unfolding(crate::specs::Sources::spelled_by))]
-fn spelled_by(
-    names: &[String],
-    plan: &Plan,
-    fields: SourceFields<'_>,
-) -> Result<SourceTerms, FileKind>
-    requires few { length names.now ≤ most_servers }
-    requires named { length names.now ≡ length plan.now.rates }
-    ensures value { result ≡ spelled_by (map string_bytes names.now) plan.now.rates
-        (fields_view fields.entry) }
-    ensures lawful { IfOk result (IsSource (length names.now)) }
+fn spelled_by(names: &[String], fields: SourceFields<'_>) -> Result<SourceTerms, FileKind>
+    requires { length names.now ≤ most_servers }
+    ensures value { result ≡ spelled_by (map string_bytes names.now) (fields_view fields.entry) }
+    ensures lawful { IfOk result (λ t. IsSource (length names.now) (due_within 0 t)) }
 {
     let server = server_named(names, fields.server)?;
     let first = optional_within(0, LIMIT, fields.first)?;
@@ -173,18 +168,67 @@ fn spelled_by(
         every,
         units,
         jobs,
-        within: Some(deadline.unwrap_or(period_at(plan, server))),
+        within: deadline,
         overrun: overrun.unwrap_or(Range::fixed(0)),
     })
 }
 
-/// Returns the source of one entry, in a file with servers of these names and this plan.
-pub fn source_entry(names: &[String], plan: &Plan, entry: &Value) -> Result<SourceTerms, FileKind>
+/// Returns a source with each job to be finished within so many ticks, if it does not say within how many.
+fn due_within(ticks: u64, terms: SourceTerms) -> SourceTerms
+    ensures { result ≡ due_within ticks terms }
+{
+    SourceTerms {
+        within: Some(terms.within.unwrap_or(ticks)),
+        ..terms
+    }
+}
+
+/// Returns the source of one entry, in a file with servers of these names. It may not say within how many ticks its jobs
+/// are to be finished.
+fn terms_entry(names: &[String], entry: &Value) -> Result<SourceTerms, FileKind>
+    requires { length names.now ≤ most_servers }
+    ensures value { result ≡ terms_entry (map string_bytes names.now) (view entry.now) }
+    ensures lawful { IfOk result (λ t. IsSource (length names.now) (due_within 0 t)) }
+{
+    spelled_by(names, source_fields(entry)?)
+}
+
+/// The servers of a file, which say by when jobs are to be finished.
+pub trait Due {
+    // Within how many ticks the jobs of a source are to be finished, if it does not say so.
+    ghost due: { Self → SourceTerms → ℕ };
+
+    // How many servers there are.
+    ghost servers: { Self → ℕ };
+
+    /// Returns within how many ticks the jobs of a source of these servers are to be finished, if it does not say so.
+    fn due(&self, terms: &SourceTerms) -> u64
+        requires { terms.now.server < servers self.now }
+        ensures { result ≡ due self.now terms.now };
+}
+
+impl Due for Plan {
+    ghost due = { λ plan terms. due_in_plan plan.rates terms };
+
+    ghost servers = { λ plan. length plan.rates };
+
+    fn due(&self, terms: &SourceTerms) -> u64 {
+        period_at(self, terms.server)
+    }
+}
+
+/// Returns the source of one entry, in a file with these servers.
+pub fn source_entry<D: Due>(
+    names: &[String],
+    servers: &D,
+    entry: &Value,
+) -> Result<SourceTerms, FileKind>
     requires few { length names.now ≤ most_servers }
-    requires named { length names.now ≡ length plan.now.rates }
-    ensures value { result ≡ source_entry (map string_bytes names.now) plan.now.rates
+    requires named { length names.now ≡ D.servers servers.now }
+    ensures value { result ≡ source_entry (map string_bytes names.now) (D.due servers.now)
         (view entry.now) }
     ensures lawful { IfOk result (IsSource (length names.now)) }
 {
-    spelled_by(names, plan, source_fields(entry)?)
+    let terms = terms_entry(names, entry)?;
+    Ok(due_within(servers.due(&terms), terms))
 }

@@ -8,6 +8,7 @@ use Rattle.cbs_guarantee.specs.Parts.{rate_at}
 use Rattle.cbs_guarantee.specs.Sources.{IsPromised, IsReason}
 use Rattle.cbs_guarantee.specs.declared.source.Source.{Source}
 use Rattle.cbsrun_loads.specs.Loads.{LoadFile}
+use Rattle.cbsrun_loads.specs.Sketches.{SketchFile}
 use Rattle.cbsrun_proposals.specs.Proposals.{IsEnough, IsRemedy}
 use Rattle.cbsrun_proposals.specs.declared.remedy.Proposal.{Proposal}
 use Rattle.cbsrun_proposals.specs.declared.remedy.Remedy.{Remedy}
@@ -65,9 +66,24 @@ lesser None n = n
 abbrev pub least_within : List SourceTerms → ℕ → Option ℕ
 least_within sources s = fold (λ least t. if eqb t.server s then lesser least t.within else least) None sources
 
--- what the jobs of server s have to live with, and by when they have to be finished
+-- what the jobs of server s of n have to live with, with this backlog, and by when they have to be finished
+abbrev pub wanted_by : List SourceTerms → ℕ → ℕ → ℕ → Wanted
+wanted_by sources n backlog s = record {
+  delay = all_charges sources n - most_charged sources s + most_passed sources s;
+  backlog = backlog;
+  within = least_within sources s;
+}
+
+-- the same for server s of a load, and of a sketch
 abbrev pub wanted_of : LoadFile → ℕ → Wanted
-wanted_of f s = record { delay = delay_from_release f s; backlog = f.backlog; within = least_within f.sources s }
+wanted_of f s = wanted_by f.sources (length f.plan.rates) f.backlog s
+
+abbrev pub wanted_in : SketchFile → ℕ → Wanted
+wanted_in k s = wanted_by k.sources (length k.names) k.backlog s
+
+-- the reservation of each tick of the time
+abbrev pub every_tick : Rate
+every_tick = record { budget = 1; period = 1 }
 
 -- the proposal of a remedy, if there is one
 abbrev pub proposed : Option Remedy → Option Proposal

@@ -15,5 +15,5 @@ pub use budgets::{greatest_budget_at, greatest_budgets};
 pub use divisor::greatest_common_divisor;
 pub use lateness::greatest_delay;
 pub use recoveries::recovery;
-pub use server_load::{ServerLoad, least_within, server_loads};
+pub use server_load::{ServerLoad, least_within, promised_at_best, proposal_for, server_loads};
 pub use shares::{is_within, left_over};

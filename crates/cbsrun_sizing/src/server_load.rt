@@ -1,15 +1,17 @@
 //! The figures of the sources of each server of a load.
 
-ghost use Rattle.std.specs.Prelude.{◌≡◌, ◌*◌, ◌≤◌, ◌<◌, length, IfOk};
+ghost use Rattle.std.specs.Prelude.{◌≡◌, ℕ, ◌*◌, ◌≤◌, ◌<◌, length, IfOk, MatchResult};
 ghost use Rattle.cbs_rate.specs.Limits.{longest_period};
-ghost use Rattle.cbsrun_sizing.specs.ServerLoads.{held, at_most, sources_of, most_charged, all_charges, most_passed, lesser, least_within, wanted_of, proposed, AreShort, IsRoomFor, IsServerLoad, AreServerLoads};
+ghost use Rattle.cbs_guarantee.specs.Sources.{IsPromised, IsReason};
+ghost use Rattle.cbsrun_proposals.specs.Proposals.{IsProposal};
+ghost use Rattle.cbsrun_sizing.specs.ServerLoads.{every_tick, held, at_most, sources_of, most_charged, all_charges, most_passed, lesser, least_within, wanted_by, wanted_in, wanted_of, proposed, AreShort, IsRoomFor, IsServerLoad, AreServerLoads};
 
 use crate::asked::{Asked, asked_by};
 use crate::budgets::greatest_budget_at;
 use cbs_guarantee::{NotPromised, Source, guaranteed};
 use cbs_rate::{Plan, Reservation};
-use cbsrun_loads::Load;
-use cbsrun_proposals::{Proposal, Remedy, Wanted, remedy_for};
+use cbsrun_loads::{Load, Sketch};
+use cbsrun_proposals::{Proposal, Remedy, Wanted, propose, remedy_for};
 use cbsrun_simulate::SourceTerms;
 use std::alloc::{AllocError, Global};
 
@@ -134,20 +136,46 @@ fn lesser(one: Option<u64>, other: Option<u64>) -> Option<u64>
     }
 }
 
-/// Returns what the jobs of a server have to live with. `charges` is the sum of the most ticks that each server is
-/// charged for one unit.
+/// Returns what the jobs of one of the servers have to live with, with this backlog. `charges` is the sum of the most
+/// ticks that each of the servers is charged for one unit.
+fn wanted_by(sources: &[SourceTerms], charges: u64, backlog: u64, server: u16) -> Wanted
+    requires lawful { AreShort sources.now }
+    requires short { charges ≤ 65535 * longest_period }
+    ensures { (servers : ℕ) → charges ≡ all_charges sources.now servers
+        → result ≡ wanted_by sources.now servers backlog server }
+{
+    let charged = charges.saturating_sub(most_charged(sources, server));
+    Wanted {
+        delay: charged + most_passed(sources, server),
+        backlog,
+        within: least_within(sources, server),
+    }
+}
+
+/// Returns what the jobs of a server of a load have to live with. `charges` is the sum of the most ticks that each server
+/// is charged for one unit.
 fn wanted_of(load: &Load, server: u16, charges: u64) -> Wanted
     requires charges { charges ≡ all_charges load.now.sources (length load.now.plan.rates) }
     requires short { charges ≤ 65535 * longest_period }
     ensures { result ≡ wanted_of load.now server }
 {
-    let sources = load.sources();
-    let charged = charges.saturating_sub(most_charged(sources, server));
-    Wanted {
-        delay: charged + most_passed(sources, server),
-        backlog: load.backlog(),
-        within: least_within(sources, server),
-    }
+    wanted_by(load.sources(), charges, load.backlog(), server)
+}
+
+/// Returns the reservation of least share, among those that are looked at, with which the jobs of a server of a sketch are
+/// promised in time, or `None` if there is none: see [`propose`]. The only error is out of memory.
+pub fn proposal_for(
+    alloc: Global,
+    sketch: &Sketch,
+    server: u16,
+) -> Result<Option<Reservation>, AllocError>
+    ensures { IfOk result (IsProposal (sources_of server sketch.now.sources)
+        (wanted_in sketch.now server)) }
+{
+    let sources = sketch.sources();
+    let charges = all_charges(sources, sketch.names().len() as u16);
+    let own = sources_of(alloc, sources, server)?;
+    Ok(propose(&own, wanted_by(sources, charges, sketch.backlog(), server)))
 }
 
 /// Returns the proposal of a remedy, if there is one.
@@ -169,6 +197,26 @@ fn room_for(plan: &Plan, server: u16, proposal: Option<Proposal>) -> u64
         Some(proposal) => greatest_budget_at(plan, server, proposal.period),
         None => 0,
     }
+}
+
+/// Returns within how many ticks of its release each job of a server of a sketch is finished, if the server has each tick
+/// of the time, or why that is not promised. The only error is out of memory.
+pub fn promised_at_best(
+    alloc: Global,
+    sketch: &Sketch,
+    server: u16,
+) -> Result<Result<u64, NotPromised>, AllocError>
+    ensures { IfOk result (λ promised. let own = sources_of server sketch.now.sources in
+        let w = wanted_in sketch.now server in
+        MatchResult promised (IsPromised every_tick own w.delay w.backlog)
+        (IsReason every_tick own w.delay w.backlog)) }
+{
+    let sources = sketch.sources();
+    let charges = all_charges(sources, sketch.names().len() as u16);
+    let own = sources_of(alloc, sources, server)?;
+    let wanted = wanted_by(sources, charges, sketch.backlog(), server);
+    let every_tick = Reservation::new(1, 1).unwrap();
+    Ok(guaranteed(every_tick, &own, wanted.delay, wanted.backlog))
 }
 
 /// Returns the figures of a server of a load. `charges` is the sum of the most ticks that each server is charged for

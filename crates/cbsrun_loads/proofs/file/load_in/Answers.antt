@@ -5,7 +5,7 @@ use Rattle.cbs_rules.specs.Setups.{no_servers}
 use Rattle.cbsrun_toml_tables.specs.declared.fault.Place.TheVariants.{Source as AtSource}
 use Rattle.cbsrun_toml_tables.specs.Documents.{at, taken_in}
 use Rattle.cbsrun_toml_tables.specs.Fields.{each_from}
-use Rattle.cbsrun_loads.specs.Sources.{source_entry}
+use Rattle.cbsrun_loads.specs.Sources.{due_in_plan, source_entry}
 use Rattle.cbsrun_loads.specs.Spelling.{Named, load_in, admitted_entry}
 use Rattle.cbsrun_loads.specs.TopTables.{top_table, top_view}
 use Rattle.cbsrun_loads.proofs.file.load_in.Goals as goal
@@ -30,7 +30,7 @@ returns c =
     let named : Named = record { names = map string_bytes c.in_ok-names.names.items; setup = c.in_ok-names.setup } in
     let servers : taken_in admitted_entry 0 (record { names = []; setup = no_servers c.in-Ok.top.bound }) (map view c.in-Ok.top.servers.now.items) ≡ Ok named =
     rw c.deref.ensures.value at c.in_ok-names.ensures.servers in
-    let sources : each_from 0 (λ i entry. at (AtSource i) (source_entry (map string_bytes c.in_ok-names.names.items) c.in_ok-names.setup.plan.rates entry))
+    let sources : each_from 0 (λ i entry. at (AtSource i) (source_entry (map string_bytes c.in_ok-names.names.items) (due_in_plan c.in_ok-names.setup.plan.rates) entry))
     (map view c.in-Ok.top.sources.now.items) ≡ Ok c.in_ok-sources.sources.items =
     rw (c.deref-2.ensures.value, c.plan.ensures.value, c.deref-3.ensures.value) at c.in_ok-sources.ensures.sources in
     rw (top, servers, sources) refl

@@ -1,0 +1,1 @@
+use Rattle.cbsrun_commands.proofs.size.size_bytes_within.Goals as goal
