@@ -31,7 +31,7 @@ _cbsrun() {
     for ((i = 1; i < COMP_CWORD; i++)); do
         case ${COMP_WORDS[i]} in
             --) options=no ;;
-            check | simulate | replay | serve | help) command=${command:-${COMP_WORDS[i]}} ;;
+            check | size | simulate | replay | serve | help) command=${command:-${COMP_WORDS[i]}} ;;
         esac
     done
     COMPREPLY=()
@@ -40,13 +40,16 @@ _cbsrun() {
             _cbsrun_words lines report json text svg trace
             return
             ;;
-        yes--from | yes--to) return ;;
+        yes--from | yes--to | yes--seed | yes--until) return ;;
     esac
     case $command,$options,$word in
         ,yes,-*) _cbsrun_words -h --help -V --version ;;
-        ,*) _cbsrun_words check simulate replay serve help ;;
-        help,*) _cbsrun_words check simulate replay serve ;;
-        simulate,yes,-* | replay,yes,-*) _cbsrun_words --as --from --to -h --help ;;
+        ,*) _cbsrun_words check size simulate replay serve help ;;
+        help,*) _cbsrun_words check size simulate replay serve ;;
+        check,yes,-*) _cbsrun_words --strict -h --help ;;
+        size,yes,-*) _cbsrun_words --all -h --help ;;
+        simulate,yes,-*) _cbsrun_words --as --from --to --seed --until --strict -h --help ;;
+        replay,yes,-*) _cbsrun_words --as --from --to -h --help ;;
         *,yes,-*) _cbsrun_words -h --help ;;
         *) _cbsrun_files ;;
     esac

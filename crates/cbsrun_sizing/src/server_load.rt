@@ -162,6 +162,22 @@ fn wanted_of(load: &Load, server: u16, charges: u64) -> Wanted
     wanted_by(load.sources(), charges, load.backlog(), server)
 }
 
+/// Returns how many servers a sketch has.
+fn servers_in(sketch: &Sketch) -> u16
+    ensures { result ≡ length sketch.now.names }
+{
+    sketch.names().len() as u16
+}
+
+/// Returns what the jobs of a server of a sketch have to live with.
+fn wanted_in(sketch: &Sketch, server: u16) -> Wanted
+    ensures { result ≡ wanted_in sketch.now server }
+{
+    let sources = sketch.sources();
+    let charges = all_charges(sources, servers_in(sketch));
+    wanted_by(sources, charges, sketch.backlog(), server)
+}
+
 /// Returns the reservation of least share, among those that are looked at, with which the jobs of a server of a sketch are
 /// promised in time, or `None` if there is none: see [`propose`]. The only error is out of memory.
 pub fn proposal_for(
@@ -172,10 +188,8 @@ pub fn proposal_for(
     ensures { IfOk result (IsProposal (sources_of server sketch.now.sources)
         (wanted_in sketch.now server)) }
 {
-    let sources = sketch.sources();
-    let charges = all_charges(sources, sketch.names().len() as u16);
-    let own = sources_of(alloc, sources, server)?;
-    Ok(propose(&own, wanted_by(sources, charges, sketch.backlog(), server)))
+    let own = sources_of(alloc, sketch.sources(), server)?;
+    Ok(propose(&own, wanted_in(sketch, server)))
 }
 
 /// Returns the proposal of a remedy, if there is one.
@@ -211,10 +225,8 @@ pub fn promised_at_best(
         MatchResult promised (IsPromised every_tick own w.delay w.backlog)
         (IsReason every_tick own w.delay w.backlog)) }
 {
-    let sources = sketch.sources();
-    let charges = all_charges(sources, sketch.names().len() as u16);
-    let own = sources_of(alloc, sources, server)?;
-    let wanted = wanted_by(sources, charges, sketch.backlog(), server);
+    let own = sources_of(alloc, sketch.sources(), server)?;
+    let wanted = wanted_in(sketch, server);
     let every_tick = Reservation::new(1, 1).unwrap();
     Ok(guaranteed(every_tick, &own, wanted.delay, wanted.backlog))
 }
