@@ -15,7 +15,8 @@ use cbsrun_commands::{
     Action, Asked, BAD_FILE, ByteOutput, DONE, Form, MEMORY_VARIABLE, Progress, RUN_FAULT,
     RunError, ToWrite, WRONG_WORDS, WordsFault, check_bytes_within, draw_load_within,
     draw_tasks_within, memory_bound, read_words, report_bytes_within, run_bytes_within,
-    simulate_bytes_within, simulate_lines_within, size_bytes_within, write_pieces, write_read_fault, write_run_fault,
+    simulate_bytes_within, simulate_lines_within, size_bytes_within, write_pieces,
+    write_read_fault, write_run_fault,
 };
 use cbsrun_tasks::MEMORY;
 use cbsrun_text_colours::Painted;
@@ -84,9 +85,7 @@ fn answered<R: Threads + Clock + Sync, P: Progress, O: ByteOutput, E: ByteOutput
         Action::Check { strict } => {
             check_bytes_within(alloc, memory, strict, name, bytes, out, err)
         }
-        Action::Size { all } => {
-            size_bytes_within(alloc, memory, all, name, bytes, out, err)
-        }
+        Action::Size { all } => { size_bytes_within(alloc, memory, all, name, bytes, out, err) }
         Action::ReportLoad(report) => {
             simulate_bytes_within(alloc, memory, report, name, bytes, progress, out, err)
         }

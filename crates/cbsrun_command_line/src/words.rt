@@ -11,8 +11,8 @@ use crate::actions::Asked;
 use crate::fault::WordsFault;
 use crate::options::{Options, action_of, wrong_options};
 use crate::texts::{
-    ABOUT, ALL, CHECK, FILES, FROM, GUIDE, IN_TIME, PROMISED, REPLAY, REPORTS, SEED, SERVE, SIMULATE, SIZE,
-    TO, TRACES, UNTIL, VERSION,
+    ABOUT, ALL, CHECK, FILES, FROM, GUIDE, IN_TIME, PROMISED, REPLAY, REPORTS, SEED, SERVE,
+    SIMULATE, SIZE, TO, TRACES, UNTIL, VERSION,
 };
 use clap::error::ErrorKind;
 use clap::{Arg, ArgAction, ArgMatches, Command, Error};

@@ -76,7 +76,10 @@ pub(crate) fn reservations_of(
     let servers = sketch.servers().len() as u16;
     let mut reservations = Vec::with_capacity(alloc, usize::from(servers))?;
     for server in 0..servers {
-        reservations.push(reservation_for(alloc, sketch, all, server)?)?;
+        let reservation = reservation_for(alloc, sketch, all, server)?;
+        let Ok(()) = reservations.push(reservation) else {
+            return Err(NotSized::OutOfMemory);
+        };
     }
     Ok(reservations)
 }

@@ -72,8 +72,9 @@ const JSON: Action = Action::ReportLoad(LoadReport {
 });
 
 /// Command lines with a verb and a file, and what they ask for.
-const VERBS: [(&str, Action); 4] = [
+const VERBS: [(&str, Action); 5] = [
     ("cbsrun check a.toml", Action::Check { strict: false }),
+    ("cbsrun size a.toml", Action::Size { all: false }),
     ("cbsrun simulate a.toml", REPORT),
     ("cbsrun replay a.toml", Action::Run(Verb::Replay)),
     ("cbsrun serve a.toml", Action::Run(Verb::Serve)),
@@ -157,7 +158,7 @@ const GREATEST: Changes = Changes {
 };
 
 /// Command lines whose options change a load, or have the status tell the answer.
-const CHANGED: [(&str, Action); 4] = [
+const CHANGED: [(&str, Action); 5] = [
     (
         "cbsrun simulate --seed 9223372036854775807 --until=1000000000000 --strict a.toml",
         Action::ReportLoad(LoadReport {
@@ -188,6 +189,7 @@ const CHANGED: [(&str, Action); 4] = [
         "cbsrun check --strict a.toml",
         Action::Check { strict: true },
     ),
+    ("cbsrun size a.toml --all", Action::Size { all: true }),
 ];
 
 #[test]
