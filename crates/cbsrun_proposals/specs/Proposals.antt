@@ -1,5 +1,5 @@
 -- Reservations with which the jobs of a server are promised in time.
-use Rattle.std.specs.Prelude.{ℕ, ◌≡◌, ◌⊎◌, ◌+◌, ◌*◌, ◌≤◌, ◌<◌, Bool, true, false, leb, List, map, flat_map, Option, Some, None, IfSome, option_map}
+use Rattle.std.specs.Prelude.{ℕ, ◌≡◌, ◌⊎◌, ◌+◌, ◌*◌, ◌≤◌, ◌<◌, Bool, true, false, leb, List, map, flat_map, Option, Some, None, MatchOption, option_map}
 use Rattle.std.specs.Int.{div_ceil}
 use Rattle.std.specs.List.{All, range_with_len}
 use Rattle.cbs_rate.specs.Limits.{most_backlog}
@@ -77,9 +77,21 @@ IsProposal sources w proposed = IsBestOf sources w (budgets_of sources) proposed
 abbrev pub rate_of : Proposal → Rate
 rate_of p = rate p.budget p.period
 
--- Why the server needs a remedy, and what would do: a greater backlog, if that alone is too small, and another
+-- what is wanted, with another backlog
+abbrev pub with_backlog : ℕ → Wanted → Wanted
+with_backlog n w = record w { backlog = n }
+
+-- the backlog is lawful, and enough with the server's own reservation
+abbrev pub IsBacklogEnough : List Source → Wanted → Rate → ℕ → Type 0
+IsBacklogEnough sources w server n = (n ≤ most_backlog) × IsEnough sources (with_backlog n w) server
+
+-- no lawful backlog is
+abbrev pub IsNoBacklogEnough : List Source → Wanted → Rate → Type 0
+IsNoBacklogEnough sources w server = (n : ℕ) → n ≤ most_backlog → IsNotEnough sources (with_backlog n w) server
+
+-- Why the server needs a remedy, and what would do: a backlog, if one would with its own reservation, and another
 -- reservation, if one is found
 pub record IsRemedy (sources : List Source) (w : Wanted) (server : Rate) (r : Remedy) : Type 0 where
   pub needed : IsNotEnough sources w server
-  pub backlog : IfSome r.backlog (λ n. (n ≤ most_backlog) × IsEnough sources (record w { backlog = n }) server)
+  pub backlog : MatchOption r.backlog (IsNoBacklogEnough sources w server) (IsBacklogEnough sources w server)
   pub reservation : IsProposal sources w (option_map rate_of r.reservation)

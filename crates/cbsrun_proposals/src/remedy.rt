@@ -1,8 +1,8 @@
 //! What would do for a server whose jobs are not promised in time.
 
-ghost use Rattle.std.specs.Prelude.{◌≡◌, ◌≤◌, IfSome, MatchOption, option_map};
+ghost use Rattle.std.specs.Prelude.{◌≡◌, ◌≤◌, true, false, MatchOption, option_map};
 ghost use Rattle.cbs_rate.specs.Limits.{most_backlog};
-ghost use Rattle.cbsrun_proposals.specs.Proposals.{rate_of, IsEnough, IsRemedy};
+ghost use Rattle.cbsrun_proposals.specs.Proposals.{rate_of, with_backlog, IsBacklogEnough, IsEnough, IsNoBacklogEnough, IsNotEnough, IsRemedy};
 
 use crate::proposal::propose;
 use crate::wanted::{Wanted, is_enough};
@@ -29,29 +29,37 @@ pub struct Remedy {
     pub reservation: Option<Proposal>,
 }
 
-/// Returns a backlog that is enough for a server of this reservation, if its own is too small and nothing else is
-/// amiss.
-fn greater_backlog(server: Reservation, sources: &[Source], wanted: Wanted) -> Option<u64>
-    ensures { IfSome result (λ n. (n ≤ most_backlog)
-        × IsEnough sources.now (record wanted { backlog = n }) server) }
+/// Returns whether a server of this reservation promises each job in time with this backlog.
+fn is_enough_with(backlog: u64, server: Reservation, sources: &[Source], wanted: Wanted) -> bool
+    ensures yes { result ≡ true → IsEnough sources.now (with_backlog backlog wanted) server }
+    ensures no { result ≡ false → IsNotEnough sources.now (with_backlog backlog wanted) server }
 {
-    let Err(NotPromised::BacklogTooSmall { needed }) = guaranteed(
-        server,
-        sources,
-        wanted.delay,
-        wanted.backlog,
-    ) else {
+    is_enough(server, sources, Wanted { backlog, ..wanted })
+}
+
+/// Returns the backlog that the jobs need, as far as it is at most [`MAX_BACKLOG`].
+fn needed_backlog(server: Reservation, sources: &[Source], wanted: Wanted) -> u64
+    ensures { result ≤ most_backlog }
+{
+    match guaranteed(server, sources, wanted.delay, wanted.backlog) {
+        Err(NotPromised::BacklogTooSmall { needed }) => needed.min(MAX_BACKLOG),
+        _ => MAX_BACKLOG,
+    }
+}
+
+/// Returns a backlog that is enough for a server of this reservation, or `None` if none is, up to [`MAX_BACKLOG`].
+fn greater_backlog(server: Reservation, sources: &[Source], wanted: Wanted) -> Option<u64>
+    ensures { MatchOption result (IsNoBacklogEnough sources.now wanted server)
+        (IsBacklogEnough sources.now wanted server) }
+{
+    if !is_enough_with(MAX_BACKLOG, server, sources, wanted) {
         return None;
-    };
-    let more = Wanted {
-        delay: wanted.delay,
-        backlog: needed,
-        within: wanted.within,
-    };
-    if needed <= MAX_BACKLOG && is_enough(server, sources, more) {
+    }
+    let needed = needed_backlog(server, sources, wanted);
+    if is_enough_with(needed, server, sources, wanted) {
         Some(needed)
     } else {
-        None
+        Some(MAX_BACKLOG)
     }
 }
 
