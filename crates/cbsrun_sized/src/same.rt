@@ -1,12 +1,15 @@
 //! Whether a load is a sketch with a reservation for each server.
 
-ghost use Rattle.std.specs.Prelude.{◌≡◌, ◌<◌, ℕ, Bool, true, get_or, length};
+ghost use Rattle.std.specs.Prelude.{◌≡◌, ◌<◌, ℕ, Bool, true, [], get_or, length, map, string_bytes};
+ghost use Rattle.cbs_rules.specs.declared.mode.Mode.TheVariants.{Soft};
 ghost use Rattle.cbs_guarantee.specs.Parts.{rate_at};
 ghost use Rattle.cbsrun_proposals.specs.Proposals.{rate_of};
 ghost use Rattle.cbsrun_sized.specs.Sized.{no_proposal, AreReservations, IsCompleted, IsSameServer};
 
+use cbs_rules::Mode;
 use cbsrun_loads::{Load, Sketch};
 use cbsrun_proposals::Proposal;
+use cbsrun_simulate::{Range, SourceTerms};
 
 /// Returns whether a server of a load has this reservation.
 fn is_reserved(load: &Load, server: u16, reservation: Proposal) -> bool
@@ -17,16 +20,21 @@ fn is_reserved(load: &Load, server: u16, reservation: Proposal) -> bool
     own.budget() == reservation.budget && own.period() == reservation.period
 }
 
-/// Returns whether a server of a load has the name and the mode of a sketch.
-fn is_named_so(load: &Load, sketch: &Sketch, server: u16) -> bool
-    requires load { server < length load.now.plan.rates }
-    requires sketch { server < length sketch.now.servers }
-    ensures { result ≡ true → IsSameServer sketch.now load.now server
-        (rate_at load.now.plan.rates server) }
+/// Returns the name of a server.
+fn name_at(names: &[String], server: u16) -> &str
+    requires { server < length names.now }
+    ensures { result.now ≡ get_or (map string_bytes names.now) server [] }
 {
-    let at = usize::from(server);
-    let mode = load.modes().get(server).unwrap();
-    load.names()[at].as_str() == sketch.names()[at].as_str() && mode == sketch.servers()[at].mode
+    names[usize::from(server)].as_str()
+}
+
+/// Returns the mode of a server of a load.
+fn mode_at(load: &Load, server: u16) -> Mode
+    requires { server < length load.now.plan.rates }
+    ensures { result ≡ get_or load.now.modes server Soft }
+{
+    let _names = load.names();
+    load.modes().get(server).unwrap()
 }
 
 /// Returns whether a server of a load has the name and the mode of a sketch, and this reservation.
@@ -35,7 +43,9 @@ fn is_same_server(load: &Load, sketch: &Sketch, server: u16, reservation: Propos
     requires sketch { server < length sketch.now.servers }
     ensures { result ≡ true → IsSameServer sketch.now load.now server (rate_of reservation) }
 {
-    is_reserved(load, server, reservation) && is_named_so(load, sketch, server)
+    is_reserved(load, server, reservation)
+        && name_at(load.names(), server) == name_at(sketch.names(), server)
+        && mode_at(load, server) == sketch.servers()[usize::from(server)].mode
 }
 
 /// Returns whether each server of a load has the name and the mode of a sketch, and its reservation of these.
@@ -47,6 +57,41 @@ fn are_same_servers(load: &Load, sketch: &Sketch, reservations: &[Proposal]) -> 
 {
     for server in 0..load.plan().len() as u16 {
         if !is_same_server(load, sketch, server, reservations[usize::from(server)]) {
+            return false;
+        }
+    }
+    true
+}
+
+/// Returns whether two ranges are the same.
+fn is_same_range(one: Range, other: Range) -> bool
+    ensures { result ≡ true → one ≡ other }
+{
+    one.least() == other.least() && one.greatest() == other.greatest()
+}
+
+/// Returns whether two sources are the same.
+fn is_same_source(one: SourceTerms, other: SourceTerms) -> bool
+    ensures { result ≡ true → one ≡ other }
+{
+    one.server == other.server
+        && one.first == other.first
+        && is_same_range(one.every, other.every)
+        && is_same_range(one.units, other.units)
+        && one.jobs == other.jobs
+        && one.within == other.within
+        && is_same_range(one.overrun, other.overrun)
+}
+
+/// Returns whether two lists of sources are the same.
+fn are_same_sources(own: &[SourceTerms], others: &[SourceTerms]) -> bool
+    ensures { result ≡ true → own.now ≡ others.now }
+{
+    if own.len() != others.len() {
+        return false;
+    }
+    for (i, terms) in own.iter().enumerate() {
+        if !is_same_source(*terms, others[i]) {
             return false;
         }
     }
@@ -65,7 +110,7 @@ fn is_same_beside(load: &Load, sketch: &Sketch) -> bool
         && load.backlog() == sketch.backlog()
         && load.until() == sketch.until()
         && load.seed() == sketch.seed()
-        && load.sources() == sketch.sources()
+        && are_same_sources(load.sources(), sketch.sources())
 }
 
 /// Returns whether a load is a sketch with these reservations.
@@ -74,7 +119,8 @@ pub(crate) fn is_completed(load: &Load, sketch: &Sketch, reservations: &[Proposa
     ensures { (all : Bool) → AreReservations sketch.now all (length sketch.now.servers)
         reservations.now → result ≡ true → IsCompleted sketch.now all load.now }
 {
-    load.plan().len() == sketch.servers().len()
-        && is_same_beside(load, sketch)
-        && are_same_servers(load, sketch, reservations)
+    if load.plan().len() != sketch.servers().len() {
+        return false;
+    }
+    is_same_beside(load, sketch) && are_same_servers(load, sketch, reservations)
 }

@@ -79,8 +79,9 @@ fn append_servers(
 ) -> Result<(), AllocError>
     requires { length reservations.now ≡ length sketch.now.servers }
 {
-    for (server, reservation) in reservations.iter().enumerate() {
-        append_server(text, sketch, all, server as u16, *reservation)?;
+    let servers = sketch.servers().len() as u16;
+    for server in 0..servers {
+        append_server(text, sketch, all, server, reservations[usize::from(server)])?;
     }
     Ok(())
 }

@@ -12,7 +12,7 @@ use Rattle.cbsrun_sizing.specs.ServerLoads.{IsServerLoad, AreServerLoads, no_loa
 use Rattle.cbsrun_sizing.specs.declared.server_load.ServerLoad.{ServerLoad}
 
 -- what holds for each of n elements, and for one more
-each_more : {X : Type 0} (P : ℕ → X → Type 0) (n : ℕ) (xs : List X) (x d : X) → length xs ≡ n → ((s : ℕ) → s < n → P s (get_or xs s d)) → P n x
+pub each_more : {X : Type 0} (P : ℕ → X → Type 0) (n : ℕ) (xs : List X) (x d : X) → length xs ≡ n → ((s : ℕ) → s < n → P s (get_or xs s d)) → P n x
     → (s : ℕ) → s < n + 1 → P s (get_or (xs ++ x ∷ []) s d)
 each_more P n xs x d count each here s lt = elim (cases_lt s n) [
   | inl below ↦ let e = get_or_append_left xs (x ∷ []) d s (omega arith) in rw e (each s below)
