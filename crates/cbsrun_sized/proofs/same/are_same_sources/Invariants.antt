@@ -1,5 +1,5 @@
 use Rattle.std.proofs.Common.{◌≡◌, ℕ, ◌<◌, get_or, length}
-use Rattle.cbsrun_sized.proofs.Same.{no_source}
+use Rattle.cbsrun_sized.proofs.Sources.{no_source}
 use Rattle.cbsrun_sized.proofs.same.are_same_sources.Given as goal
 
 abbrev pub invariant-loop-i : goal.invariant-loop-i

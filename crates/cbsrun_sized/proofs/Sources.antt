@@ -1,4 +1,4 @@
--- What is the same in a load and in a sketch.
+-- The sources of a load and of a sketch.
 use Rattle.std.proofs.Common.{None}
 use Rattle.cbsrun_simulate.specs.declared.terms.SourceTerms.{SourceTerms}
 
