@@ -1,5 +1,5 @@
 -- What is told of a server that takes a plan over its bound: by how much, and what would fit.
-use Rattle.std.specs.Prelude.{◌≡◌, ℕ, ◌+◌, ◌*◌, ◌^◌, ◌<◌, ◌≤◌, zero, suc, ◌-◌, ◌⊎◌, eqb, if◌then◌else◌, List, [], ◌∷◌, ◌++◌, codes, decimal, length, Option}
+use Rattle.std.specs.Prelude.{◌≡◌, ℕ, ◌+◌, ◌*◌, ◌^◌, ◌<◌, ◌≤◌, zero, suc, ◌-◌, ◌⊎◌, eqb, if◌then◌else◌, List, [], ◌∷◌, ◌++◌, codes, decimal, length, max, Option}
 use Rattle.std.specs.Prelude.{Some, None}
 use Rattle.std.specs.Int.{◌∣◌}
 use Rattle.cbs_rate.specs.declared.ratio.Ratio.{Ratio}
@@ -16,7 +16,8 @@ use Rattle.cbsrun_check_text.specs.Fractions.{fraction_text, percent_text}
 use Rattle.cbsrun_faults.specs.Documents.{name_at}
 use Rattle.cbsrun_faults.specs.Refused.{AreReservations}
 use Rattle.cbsrun_faults.specs.declared.refused.Refused.{Refused}
-use Rattle.cbsrun_fault_texts.specs.Pages.{IsNote, bar, left_in, right_in}
+use Rattle.cbsrun_fault_texts.specs.declared.over.Columns.{Columns}
+use Rattle.cbsrun_fault_texts.specs.Pages.{IsNote, bar, left_in, right_in, printable}
 
 -- a fraction whose numbers are not too great to be written in per cent
 pub record IsShare (r : Ratio) : Type 0 where
@@ -39,28 +40,53 @@ over_line total server bound =
     codes "error: over the bound: " ++ fraction_text total.part total.whole ++ codes " of the time with server " ++ decimal server
     ++ codes ", and the bound is " ++ fraction_text bound.num bound.den
 
--- a row: a label, a share as a fraction and in per cent, and the end of the row
-unfoldable pub row : List ℕ → ℕ → ℕ → List ℕ → List ℕ
-row label part whole end =
-    codes "   | " ++ left_in 24 label ++ codes "  " ++ right_in 10 (fraction_text part whole) ++ codes "  " ++ right_in 7 (percent_text part whole) ++ end
-    ++ codes "\n"
+-- a row in columns: a label, a share as a fraction and in per cent, and the end of the row
+unfoldable pub row : Columns → List ℕ → ℕ → ℕ → List ℕ → List ℕ
+row columns label part whole end =
+    codes "   | " ++ left_in columns.label label ++ codes "  " ++ right_in columns.fraction (fraction_text part whole) ++ codes "  "
+    ++ right_in 7 (percent_text part whole) ++ end ++ codes "\n"
 
 -- the label of the servers before this one
 abbrev pub before_label : ℕ → List ℕ
 before_label server = if eqb server 1 then codes "server 0" else codes "servers 0 to " ++ decimal (server - 1)
 
--- the row of the servers before this one, which have these rates, if there are any
-unfoldable pub before_row : ℕ → List Rate → List ℕ
-before_row server rates = if eqb server 0 then [] else row (before_label server) (reserved rates) (common_multiple rates) []
+-- the label of this server, by its budget and its period
+abbrev pub own_label : Ratio → List ℕ
+own_label own = codes "budget = " ++ decimal own.part ++ codes ", period = " ++ decimal own.whole
 
--- the row of this server, by its budget and its period
-unfoldable pub own_row : ℕ → ℕ → List ℕ
-own_row budget period = row (codes "budget = " ++ decimal budget ++ codes ", period = " ++ decimal period) budget period []
+-- how long a fraction is, as it is written
+abbrev pub fraction_length : Ratio → ℕ
+fraction_length r = length (fraction_text r.part r.whole)
 
--- the sum, between two bars: the servers before this one, this one, and what is too much
+-- the columns of the sum: wide enough for the label of this server, and for each of the fractions
+abbrev pub columns_for : Ratio → Ratio → Ratio → Columns
+columns_for together own excess = record {
+  label = max 24 (length (own_label own));
+  fraction = max (max (max 10 (fraction_length together)) (fraction_length own)) (fraction_length excess);
+}
+
+-- the share of all servers with these rates
+abbrev pub share_of : List Rate → Ratio
+share_of rates = record { part = reserved rates; whole = common_multiple rates }
+
+-- the row of the servers before this one, which have this share, if there are any
+unfoldable pub before_row : Columns → ℕ → Ratio → List ℕ
+before_row columns server together =
+    if eqb server 0 then [] else row columns (before_label server) together.part together.whole []
+
+-- the row of this server
+unfoldable pub own_row : Columns → Ratio → List ℕ
+own_row columns own = row columns (own_label own) own.part own.whole []
+
+-- the rows, between two bars: the servers before this one, this one, and what is too much
+abbrev pub rows_text : Columns → ℕ → Ratio → Ratio → Ratio → List ℕ
+rows_text columns server together own excess =
+    bar 3 ++ before_row columns server together ++ own_row columns own ++ row columns [] excess.part excess.whole (codes "  too much") ++ bar 3
+
+-- the sum in its columns
 abbrev pub sum_text : ℕ → List Rate → Ratio → Ratio → List ℕ
 sum_text server rates own excess =
-    bar 3 ++ before_row server rates ++ own_row own.part own.whole ++ row [] excess.part excess.whole (codes "  too much") ++ bar 3
+    rows_text (columns_for (share_of rates) own excess) server (share_of rates) own excess
 
 -- ---- The helps
 
@@ -101,10 +127,10 @@ TellsLeastIfAny plan budget text =
 
 -- ---- The split
 
--- how a server is called, by the entries of `server`: by its name, or by its number if it has none
+-- how a server is called, by the entries of `server`: by its name, as a terminal shows it, or by its number if it has none
 abbrev pub word_of : ℕ → Option (List ℕ) → List ℕ
 word_of server None = codes "server " ++ decimal server
-word_of server (Some name) = name
+word_of server (Some name) = printable name
 
 abbrev pub server_word : List Data → ℕ → List ℕ
 server_word entries server = word_of server (name_at entries server)

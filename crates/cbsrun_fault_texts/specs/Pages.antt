@@ -1,6 +1,9 @@
 -- What is appended to a page, and how a note is laid out.
-use Rattle.std.specs.Prelude.{◌≡◌, ℕ, zero, suc, ◌+◌, ◌-◌, max, Bool, false, eqb, if◌then◌else◌, List, [], ◌∷◌, ◌++◌, codes, length, map, flat_map, string_bytes}
+use Rattle.std.specs.Prelude.{◌≡◌, ℕ, zero, suc, ◌+◌, ◌-◌, max, Bool, false, eqb, if◌then◌else◌, List, [], ◌∷◌, ◌++◌, codes, length, map, flat_map, string_bytes, encode_utf8}
+use Rattle.std.specs.Char.{is_control}
+use Rattle.std.specs.Fmt.{digits}
 use Rattle.std.specs.List.{slice_split}
+use Rattle.std.specs.Str.{chars}
 use Rattle.cbsrun_fault_texts.specs.declared.page.Page.{Page}
 
 -- unless the page has failed by then, it had not failed before, and has exactly these bytes more
@@ -23,6 +26,14 @@ left_in width text = text ++ times (width - length text) (codes " ")
 
 abbrev pub right_in : ℕ → List ℕ → List ℕ
 right_in width text = times (width - length text) (codes " ") ++ text
+
+-- a character as a terminal shows it: one that controls a terminal by its code, as `\u{1b}`
+abbrev pub printable_character : ℕ → List ℕ
+printable_character c = if is_control c then codes "\\u{" ++ digits 16 false c ++ codes "}" else encode_utf8 c
+
+-- a text as a terminal shows it
+abbrev pub printable : List ℕ → List ℕ
+printable text = flat_map printable_character (chars text)
 
 -- a bar after so many columns, with nothing beside it
 abbrev pub bar : ℕ → List ℕ

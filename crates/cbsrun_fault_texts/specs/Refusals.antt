@@ -17,14 +17,14 @@ use Rattle.cbsrun_faults.specs.Documents.{servers_of}
 use Rattle.cbsrun_faults.specs.Refused.{IsRefusedAt}
 use Rattle.cbsrun_faults.specs.declared.refused.Refused.{Refused}
 use Rattle.cbsrun_fault_texts.specs.Over.{IsOverText}
-use Rattle.cbsrun_fault_texts.specs.Pages.{AppendsA, IsNote, bar, marked_line}
+use Rattle.cbsrun_fault_texts.specs.Pages.{AppendsA, IsNote, bar, marked_line, printable}
 use Rattle.cbsrun_fault_texts.specs.declared.page.Page.{Page}
 
 -- the end of a line, and a line with the file, the place in it, and what is written beside that, if it is known
 pub record IsPlaceLine (file : List ℕ) (place : Place) (beside : Option (List ℕ)) (text : List ℕ) : Type 0 where
   pub label : List ℕ
   pub known : IfSome beside (λ known. label ≡ known)
-  pub bytes : text ≡ codes "\n  --> " ++ file ++ codes ": " ++ place_text place ++ label ++ codes "\n"
+  pub bytes : text ≡ codes "\n  --> " ++ printable file ++ codes ": " ++ place_text place ++ label ++ codes "\n"
 
 -- the line of this spot
 abbrev pub IsSpotLine : Spot → List ℕ → Type 0
@@ -36,11 +36,17 @@ IsSpotLine spot = IsPlaceLine spot.document.name.now spot.place (label_of spot)
 unfoldable pub too_many_line : ℕ → List ℕ
 too_many_line count = codes "error: there are " ++ decimal count ++ codes " servers, and there may be at most " ++ decimal most_servers
 
--- the explanation of more servers than there may be
+-- the words on who serves the others
+abbrev pub others_words : List ℕ
+others_words = codes "an executor has at most " ++ decimal most_servers ++ codes " servers: take a second one for the others"
+
+-- the explanation of more servers than there may be, with a help
 pub record IsTooManyText (IsPlace : List ℕ → Type 0) (entries : List Data) (text : List ℕ) : Type 0 where
   pub place : List ℕ
+  pub help : List ℕ
   pub is_place : IsPlace place
-  pub bytes : text ≡ too_many_line (length entries) ++ place
+  pub is_help : IsNote 2 (codes "help") others_words help
+  pub bytes : text ≡ too_many_line (length entries) ++ place ++ bar 2 ++ help
 
 -- ---- Periods that are too fine
 

@@ -6,31 +6,39 @@ ghost use Rattle.toml.specs.Parse.{parse_document};
 ghost use Rattle.cbsrun_faults.specs.Documents.{IsDocument};
 ghost use Rattle.cbsrun_fault_texts.specs.Refusals.{AppendsWhy, ExplainsRefusal};
 
+use crate::key_line::{KeyLine, Marked};
 use crate::limits::append_not_admitted;
 use crate::not_toml::append_not_toml;
 use crate::notes::{append_keys_note, append_servers_note};
 use crate::page::Page;
-use crate::remarks::{Marked, append_key_line, append_outside_line, append_type_line};
+use crate::remarks::{append_outside_line, append_type_lines};
 use crate::shown::{append_shown, type_phrase};
 use crate::values::{append_outside, append_wrong_type};
-use cbsrun_faults::{Document, Finding, Key, Spot, Want, find, nearest_key, spot_at};
+use cbsrun_faults::{
+    Document, Finding, Key, Meant, Spot, Want, find, header_line, meant_by, spot_at,
+};
 use cbsrun_toml_tables::{FileFault, FileKind, Place};
 use std::alloc::{AllocError, Global};
 use toml::Value;
 
-/// Appends the explanation of a key that a table may not have, with the key that may be meant, if a key of the table is
-/// near enough.
+/// Appends the explanation of a key that a table may not have, with what may be meant by it, if that is known.
 fn append_unknown(page: &mut Page, spot: &Spot<'_>, key: &str, value: &Value) {
-    let phrase = spot.subject.phrase();
-    write!(page, "error: no key of {phrase}: `{key}`");
-    page.push_spot(spot);
-    append_key_line(page, key, value, Marked::Key);
-    let meant = nearest_key(page.alloc, spot, key);
-    if let Some(Some(name)) = page.accept(meant) {
-        page.push_all(&[" did you mean `", name, "`?"]);
+    page.push_all(&["error: no key of ", spot.subject.phrase(), ": `"]);
+    page.push_printable(key);
+    page.push("`");
+    let line = KeyLine::new(page.alloc, spot, key, value);
+    let Some(line) = page.accept(line) else {
+        return;
+    };
+    line.append(page, spot, Marked::Key);
+    let meant = meant_by(page.alloc, spot, key);
+    match page.accept(meant).flatten() {
+        Some(Meant::Key(name)) => page.push_all(&[" did you mean `", name, "`?"]),
+        Some(Meant::Elsewhere(phrase)) => page.push_all(&[" this key belongs to ", phrase]),
+        None => {}
     }
     page.push("\n");
-    append_keys_note(page, spot.subject, false);
+    append_keys_note(page, line.margin(), spot.subject, false);
 }
 
 /// Appends that a document has no key that says of which kind it is, or that it is of the other kind.
@@ -53,26 +61,35 @@ fn append_missing(page: &mut Page, spot: &Spot<'_>, key: Key) {
         return append_other_kind(page, spot);
     }
     page.push_all(&["error: `", key.name, "` is missing"]);
-    page.push_spot(spot);
-    append_keys_note(page, spot.subject, true);
+    let number = header_line(page.alloc, spot);
+    let Some(number) = page.accept(number) else {
+        return;
+    };
+    page.push_spot_at(spot, number);
+    append_keys_note(page, 2, spot.subject, true);
 }
 
 /// Appends the explanation of a value of a wrong type.
 fn append_type_fault(page: &mut Page, spot: &Spot<'_>, key: Key, value: &Value) {
     page.push("error: ");
     append_wrong_type(page, key, value);
-    page.push_spot(spot);
-    append_type_line(page, key, value);
+    let line = KeyLine::new(page.alloc, spot, key.name, value);
+    if let Some(line) = page.accept(line) {
+        append_type_lines(page, &line, key, value, spot);
+    }
 }
 
 /// Appends the explanation of a value that is out of range.
 fn append_range_fault(page: &mut Page, spot: &Spot<'_>, key: Key, value: &Value) {
     page.push("error: ");
     append_outside(page, key, value, spot);
-    page.push_spot(spot);
-    append_outside_line(page, key, value, spot);
+    let line = KeyLine::new(page.alloc, spot, key.name, value);
+    let Some(line) = page.accept(line) else {
+        return;
+    };
+    append_outside_line(page, &line, key, value, spot);
     if matches!(key.want, Want::ServerName) {
-        append_servers_note(page, spot.document.servers);
+        append_servers_note(page, line.margin(), spot.document.servers);
     }
 }
 
@@ -82,9 +99,11 @@ fn append_taken(page: &mut Page, spot: &Spot<'_>, value: &Value, other: usize) {
     append_shown(page, value);
     page.push_number(", which server ", other as u64);
     page.push(" has already");
-    page.push_spot(spot);
-    append_key_line(page, "name", value, Marked::Inside);
-    page.push(" a name that no other server has\n");
+    let line = KeyLine::new(page.alloc, spot, "name", value);
+    if let Some(line) = page.accept(line) {
+        line.append(page, spot, Marked::Inside);
+        page.push(" a name that no other server has\n");
+    }
 }
 
 /// Appends the explanation of an entry that is no table.
@@ -132,6 +151,11 @@ fn append_fault(page: &mut Page, document: Document<'_>, fault: FileFault)
     }
 }
 
+/// Returns bytes as a text, or an empty one if they are none.
+fn text_of(bytes: &[u8]) -> &str {
+    std::str::from_utf8(bytes).unwrap_or("")
+}
+
 /// Appends the explanation of the first fault of a file.
 fn append_explanation(page: &mut Page, name: &str, bytes: &[u8], fault: FileFault)
     ensures { (top : Members) → IsUtf8 bytes.now → parse_document bytes.now ≡ Some top
@@ -141,7 +165,7 @@ fn append_explanation(page: &mut Page, name: &str, bytes: &[u8], fault: FileFaul
         return page.push_kind(fault.kind);
     }
     match toml::table_from_slice(page.alloc, bytes) {
-        Ok(top) => append_fault(page, Document::new(name, &top), fault),
+        Ok(top) => append_fault(page, Document::new(name, text_of(bytes), &top), fault),
         Err(error) if error.is_memory() => page.fail(),
         Err(error) => append_not_toml(page, name, bytes, &error),
     }

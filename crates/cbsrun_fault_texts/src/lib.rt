@@ -2,6 +2,7 @@
 #![tactic(auto)]
 
 mod faults;
+mod key_line;
 mod limits;
 mod not_toml;
 mod notes;

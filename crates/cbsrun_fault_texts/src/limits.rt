@@ -21,6 +21,11 @@ fn append_too_many(page: &mut Page, spot: &Spot<'_>)
     page.push_number("error: there are ", count as u64);
     page.push_number(" servers, and there may be at most ", MAX_SERVERS as u64);
     page.push_spot(spot);
+    page.push_bar(2);
+    let help = format!(in page.alloc;
+        "an executor has at most {MAX_SERVERS} servers: take a second one for the others"
+    );
+    page.push_note(2, "help", help);
 }
 
 /// Appends how often the periods of the servers before this one come together.

@@ -1,5 +1,7 @@
 //! Notes below a fault: which keys a table has, and which servers there are.
 
+ghost use Rattle.std.specs.Prelude.{◌≤◌};
+
 use crate::page::Page;
 use cbsrun_faults::{Key, Subject, server_names};
 use std::alloc::{AllocError, Global};
@@ -47,18 +49,42 @@ fn append_optional(page: &mut Page, keys: &[Key]) {
 }
 
 /// Appends a note on the keys that a table has. If a key is missing, appends also which keys it must have.
-pub(crate) fn append_keys_note(page: &mut Page, subject: Subject, missing: bool) {
+pub(crate) fn append_keys_note(page: &mut Page, margin: usize, subject: Subject, missing: bool)
+    requires { margin ≤ 80 }
+{
     let mut words = Page::new(page.alloc);
     append_keys(&mut words, subject);
     if missing && subject.keys().len() > 1 {
         append_optional(&mut words, subject.keys());
     }
-    page.push_bar(2);
-    page.push_note(2, "note", words.finish());
+    page.push_bar(margin);
+    page.push_note(margin, "note", words.finish());
+}
+
+/// Appends a bar after `margin` columns, and a help with these words.
+pub(crate) fn append_help(page: &mut Page, margin: usize, words: &str)
+    requires { margin ≤ 80 }
+{
+    page.push_bar(margin);
+    page.push_note(margin, "help", String::from_str(page.alloc, words));
+}
+
+/// Appends how the tables of this array are written, if it is one of a file.
+pub(crate) fn append_brackets_help(page: &mut Page, margin: usize, name: &str)
+    requires { margin ≤ 80 }
+{
+    match name {
+        "server" => append_help(page, margin, "write [[server]] above each server"),
+        "source" => append_help(page, margin, "write [[source]] above each source"),
+        "step" => append_help(page, margin, "write [[step]] above each step"),
+        _ => {}
+    }
 }
 
 /// Appends a note on the servers that there are.
-pub(crate) fn append_servers_note(page: &mut Page, servers: &[Value]) {
+pub(crate) fn append_servers_note(page: &mut Page, margin: usize, servers: &[Value])
+    requires { margin ≤ 80 }
+{
     let mut words = Page::new(page.alloc);
     if let Some(names) = words.accept(server_names(page.alloc, servers)) {
         words.push(match names.len() {
@@ -68,6 +94,6 @@ pub(crate) fn append_servers_note(page: &mut Page, servers: &[Value]) {
         });
         words.push_list(&names, "\"", ", ");
     }
-    page.push_bar(2);
-    page.push_note(2, "note", words.finish());
+    page.push_bar(margin);
+    page.push_note(margin, "note", words.finish());
 }

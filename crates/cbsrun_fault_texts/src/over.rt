@@ -8,7 +8,7 @@ ghost use Rattle.cbs_rate.specs.Rate.{IsRate};
 ghost use Rattle.cbs_rate.specs.Room.{IsLeastPeriod};
 ghost use Rattle.cbs_rate.specs.declared.error.AdmitError.TheVariants.{OverBound};
 ghost use Rattle.cbsrun_check_text.specs.Fractions.{fraction_text, percent_text};
-ghost use Rattle.cbsrun_fault_texts.specs.Over.{row, before_label, before_row, own_row, sum_text, IsHelp, IsHelpThat, TellsGreatest, TellsLeast, TellsLeastIfAny, server_word, separator, servers_text, part_line, alone_words, IsPartsText, TellsSplit, AreHelps, IsOverText, IsShare, IsShortened};
+ghost use Rattle.cbsrun_fault_texts.specs.Over.{row, before_label, own_label, fraction_length, columns_for, before_row, own_row, rows_text, sum_text, IsHelp, IsHelpThat, TellsGreatest, TellsLeast, TellsLeastIfAny, server_word, separator, servers_text, part_line, alone_words, IsPartsText, TellsSplit, AreHelps, IsOverText, IsShare, IsShortened};
 ghost use Rattle.cbsrun_fault_texts.specs.Pages.{Appends, AppendsA};
 ghost use Rattle.cbsrun_fault_texts.specs.Refusals.{IsSpotLine};
 
@@ -22,6 +22,12 @@ use std::alloc::{AllocError, Global};
 
 /// The columns before the bar.
 const MARGIN: usize = 3;
+
+/// The least columns of the labels of a sum.
+const LABEL: usize = 24;
+
+/// The least columns of the fractions of a sum.
+const FRACTION: usize = 10;
 
 /// Returns a bound as a fraction.
 fn ratio_of_bound(bound: Bound) -> Ratio
@@ -87,10 +93,52 @@ fn percent_of(alloc: Global, ratio: Ratio) -> Result<String, AllocError>
     Ok(text)
 }
 
+/// The columns of the sum.
+#[derive(Clone, Copy)]
+struct Columns {
+    /// How wide the labels are.
+    label: usize,
+    /// How wide the fractions are.
+    fraction: usize,
+}
+
+/// Returns how long a fraction is, as it is written. The only error is out of memory.
+fn fraction_length(alloc: Global, ratio: Ratio) -> Result<usize, AllocError>
+    requires { 0 < ratio.whole }
+    ensures { IfOk result (λ columns. columns ≡ fraction_length ratio) }
+{
+    let text = fraction_of(alloc, ratio)?;
+    Ok(text.as_str().len())
+}
+
+/// Returns the columns of the sum of the servers before this one, this server, and what is too much. The only error is
+/// out of memory.
+fn columns_for(
+    alloc: Global,
+    together: Ratio,
+    own: Ratio,
+    excess: Ratio,
+) -> Result<Columns, AllocError>
+    requires together { 0 < together.whole }
+    requires own { 0 < own.whole }
+    requires excess { 0 < excess.whole }
+    ensures { IfOk result (λ columns. columns ≡ columns_for together own excess) }
+{
+    let label = own_label(alloc, own)?;
+    let fraction = FRACTION
+        .max(fraction_length(alloc, together)?)
+        .max(fraction_length(alloc, own)?)
+        .max(fraction_length(alloc, excess)?);
+    Ok(Columns {
+        label: LABEL.max(label.as_str().len()),
+        fraction,
+    })
+}
+
 /// Appends a row of the sum.
-fn append_row(page: &mut Page, label: &str, ratio: Ratio, end: &str)
+fn append_row(page: &mut Page, columns: Columns, label: &str, ratio: Ratio, end: &str)
     requires { IsShare ratio }
-    ensures { Appends page.old page.new (row label.now ratio.part ratio.whole end.now) }
+    ensures { Appends page.old page.new (row columns label.now ratio.part ratio.whole end.now) }
 {
     let fraction = fraction_of(page.alloc, ratio);
     let Some(fraction) = page.accept(fraction) else {
@@ -101,9 +149,9 @@ fn append_row(page: &mut Page, label: &str, ratio: Ratio, end: &str)
         return;
     };
     page.push("   | ");
-    page.push_left(24, label);
+    page.push_left(columns.label, label);
     page.push("  ");
-    page.push_right(10, &fraction);
+    page.push_right(columns.fraction, &fraction);
     page.push("  ");
     page.push_right(7, &percent);
     page.push_all(&[end, "\n"]);
@@ -121,50 +169,79 @@ fn before_label(alloc: Global, number: usize) -> Result<String, AllocError>
     format!(in alloc; "servers 0 to {last}")
 }
 
+/// Returns the label of this server. The only error is out of memory.
+fn own_label(alloc: Global, own: Ratio) -> Result<String, AllocError>
+    ensures { IfOk result (λ label. string_bytes label ≡ own_label own) }
+{
+    let budget = own.part;
+    let period = own.whole;
+    format!(in alloc; "budget = {budget}, period = {period}")
+}
+
 /// Appends a row for the servers before this one, if there are any.
 #[tactic(auto, unfolding(crate::specs::Over::before_row))]
-fn append_before(page: &mut Page, refused: &Refused)
-    ensures { Appends page.old page.new (before_row refused.now.number refused.now.plan.rates) }
+fn append_before(page: &mut Page, columns: Columns, number: usize, together: Ratio)
+    requires { IsShare together }
+    ensures { Appends page.old page.new (before_row columns number together) }
 {
-    if refused.number == 0 {
+    if number == 0 {
         return;
     }
-    let label = before_label(page.alloc, refused.number);
+    let label = before_label(page.alloc, number);
     let Some(label) = page.accept(label) else {
         return;
     };
-    let together = ratio_of_bandwidth(refused.plan.bandwidth());
-    append_row(page, &label, together, "");
+    append_row(page, columns, &label, together, "");
 }
 
 /// Appends the row of this server, with its own share.
 #[tactic(auto, unfolding(crate::specs::Over::own_row))]
-fn append_own(page: &mut Page, own: Ratio)
+fn append_own(page: &mut Page, columns: Columns, own: Ratio)
     requires { IsShare own }
-    ensures { Appends page.old page.new (own_row own.part own.whole) }
+    ensures { Appends page.old page.new (own_row columns own) }
 {
-    let budget = own.part;
-    let period = own.whole;
-    let label = format!(in page.alloc; "budget = {budget}, period = {period}");
+    let label = own_label(page.alloc, own);
     let Some(label) = page.accept(label) else {
         return;
     };
-    append_row(page, &label, own, "");
+    append_row(page, columns, &label, own, "");
 }
 
-/// Appends the sum: the servers before this one, this server with its own share, and by how much they are over the
-/// bound.
+/// Appends the rows of the sum: the servers before this one, this server with its own share, and by how much they are
+/// over the bound.
+fn append_rows(
+    page: &mut Page,
+    columns: Columns,
+    number: usize,
+    together: Ratio,
+    own: Ratio,
+    excess: Ratio,
+)
+    requires together { IsShare together }
+    requires own { IsShare own }
+    requires excess { IsShare excess }
+    ensures { Appends page.old page.new (rows_text columns number together own excess) }
+{
+    page.push_bar(MARGIN);
+    append_before(page, columns, number, together);
+    append_own(page, columns, own);
+    append_row(page, columns, "", excess, "  too much");
+    page.push_bar(MARGIN);
+}
+
+/// Appends the sum, in columns that are wide enough.
 fn append_sum(page: &mut Page, refused: &Refused, own: Ratio, excess: Ratio)
     requires own { IsShare own }
     requires excess { IsShare excess }
     ensures { Appends page.old page.new
         (sum_text refused.now.number refused.now.plan.rates own excess) }
 {
-    page.push_bar(MARGIN);
-    append_before(page, refused);
-    append_own(page, own);
-    append_row(page, "", excess, "  too much");
-    page.push_bar(MARGIN);
+    let together = ratio_of_bandwidth(refused.plan.bandwidth());
+    let columns = columns_for(page.alloc, together, own, excess);
+    let Some(columns) = page.accept(columns) else {
+        return;
+    };
+    append_rows(page, columns, refused.number, together, own, excess);
 }
 
 /// Returns the words on the greatest budget that a plan takes at a period. The only error is out of memory.
@@ -221,7 +298,7 @@ fn append_server(page: &mut Page, document: Document<'_>, server: usize)
     ensures { Appends page.old page.new (server_word (map view document.entry.servers.now) server) }
 {
     match document.server_name(server) {
-        Some(name) => page.push(name),
+        Some(name) => page.push_printable(name),
         None => page.push_number("server ", server as u64),
     }
 }

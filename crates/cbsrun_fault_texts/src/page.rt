@@ -3,7 +3,7 @@
 ghost use Rattle.std.specs.Prelude.{◌≡◌, ◌+◌, ◌++◌, ◌≤◌, ◌<◌, Bool, true, false, [], codes, decimal, map, IfOk, MatchResult, IfSome, MatchOption, Some, None, string_bytes};
 ghost use Rattle.std.specs.List.{concat};
 ghost use Rattle.cbsrun_check_text.specs.Fractions.{fraction_text};
-ghost use Rattle.cbsrun_fault_texts.specs.Pages.{Appends, AppendsA, times, left_in, right_in, bar, marked_line, words_of, spaced, IsLaid, IsNote};
+ghost use Rattle.cbsrun_fault_texts.specs.Pages.{Appends, AppendsA, times, left_in, right_in, bar, marked_line, printable_character, printable, words_of, spaced, IsLaid, IsNote};
 ghost use Rattle.cbsrun_fault_texts.specs.Refusals.{IsSpotLine};
 
 use cbs_rate::Ratio;
@@ -15,7 +15,10 @@ use std::alloc::{AllocError, Global};
 use std::fmt::Display;
 
 /// The most columns of a line before it is broken.
-const COLUMNS: usize = 80;
+pub(crate) const COLUMNS: usize = 80;
+
+/// What a tab is shown as.
+const TAB: &str = "    ";
 
 /// A text that is put together. It fails if it is out of memory, and nothing is appended after that.
 #[derive(Drop)]
@@ -141,6 +144,35 @@ impl Page {
         }
     }
 
+    /// Appends a character. One that controls a terminal is appended as its code.
+    fn push_character(&mut self, character: char)
+        ensures { Appends self.old self.new (printable_character character) }
+    {
+        if character.is_control() {
+            let code = character as u32;
+            write!(self, "\\u{{{code:x}}}");
+        } else {
+            write!(self, "{character}");
+        }
+    }
+
+    /// Appends a text. Characters that control a terminal are appended as their codes.
+    pub(crate) fn push_printable(&mut self, text: &str)
+        ensures { Appends self.old self.new (printable text.now) }
+    {
+        for character in text.chars() {
+            self.push_character(character);
+        }
+    }
+
+    /// Appends a part of a line of a file, with each tab as blanks.
+    pub(crate) fn push_part(&mut self, part: &str) {
+        for (place, piece) in part.split('\t').enumerate() {
+            self.push(if place > 0 { TAB } else { "" });
+            self.push_printable(piece);
+        }
+    }
+
     /// Appends words one after another, each between two marks, with the word `last` before the last one.
     pub(crate) fn push_list(&mut self, words: &[&str], mark: &str, last: &str) {
         for (place, word) in words.iter().enumerate() {
@@ -149,7 +181,9 @@ impl Page {
                 _ if place + 1 == words.len() => last,
                 _ => ", ",
             };
-            self.push_all(&[separator, mark, word, mark]);
+            self.push_all(&[separator, mark]);
+            self.push_printable(word);
+            self.push(mark);
         }
     }
 
@@ -167,8 +201,26 @@ impl Page {
         let Some(label) = self.accept(label) else {
             return;
         };
-        self.push_all(&["\n  --> ", spot.document.name, ": "]);
+        self.push("\n  --> ");
+        self.push_printable(spot.document.name);
+        self.push(": ");
         write!(self, "{place}");
+        self.push_all(&[&label, "\n"]);
+    }
+
+    /// Appends the end of a line, and the line of the place of a fault, with the number of its line if that is known.
+    pub(crate) fn push_spot_at(&mut self, spot: &Spot<'_>, number: Option<usize>) {
+        let Some(number) = number else {
+            return self.push_spot(spot);
+        };
+        let place = spot.place;
+        let label = spot.label(self.alloc);
+        let Some(label) = self.accept(label) else {
+            return;
+        };
+        self.push("\n  --> ");
+        self.push_printable(spot.document.name);
+        write!(self, ":{number}: {place}");
         self.push_all(&[&label, "\n"]);
     }
 

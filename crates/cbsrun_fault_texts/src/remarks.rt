@@ -1,39 +1,14 @@
 //! The line of a value that is not what its key needs, with carets and a remark.
 
+ghost use Rattle.std.specs.Prelude.{◌≤◌};
+
+use crate::key_line::{KeyLine, Marked};
+use crate::notes::{append_brackets_help, append_help, append_servers_note};
 use crate::page::Page;
-use crate::shown::append_shown;
 use crate::values::{append_allowed, append_from, append_type, period_at};
 use cbsrun_faults::{Key, Spot, Want, nearest_word, server_names, two_numbers};
 use std::alloc::{AllocError, Global};
 use toml::Value;
-
-/// The part of the line of a key and its value to which carets point.
-#[derive(Clone, Copy)]
-pub(crate) enum Marked {
-    Key,
-    Value,
-    /// The text between the quotes of the value.
-    Inside,
-}
-
-/// Appends the line of a key and its value, with carets below a part of it. A remark may follow, and the end of the
-/// line has to.
-pub(crate) fn append_key_line(page: &mut Page, key: &str, value: &Value, marked: Marked) {
-    let mut shown = Page::new(page.alloc);
-    append_shown(&mut shown, value);
-    let Some(shown) = page.accept(shown.finish()) else {
-        return;
-    };
-    let width = key.chars().count();
-    let start = width.saturating_add(3);
-    let count = shown.chars().count();
-    let (from, count) = match marked {
-        Marked::Key => (0, width),
-        Marked::Value => (start, count),
-        Marked::Inside => (start.saturating_add(1), count.saturating_sub(2)),
-    };
-    page.push_line("  ", &[key, " = ", &shown], from, count);
-}
 
 /// Returns the word that may be meant by a value, if the value is a text and its key needs a word of a set. The only
 /// error is out of memory.
@@ -90,13 +65,19 @@ fn append_short(page: &mut Page, want: Want, value: &Value, spot: &Spot<'_>) {
 
 /// Appends the line of a value that is out of range, with the word that may be meant, or in short what the value may
 /// be.
-pub(crate) fn append_outside_line(page: &mut Page, key: Key, value: &Value, spot: &Spot<'_>) {
+pub(crate) fn append_outside_line(
+    page: &mut Page,
+    line: &KeyLine,
+    key: Key,
+    value: &Value,
+    spot: &Spot<'_>,
+) {
     let marked = if value.is_str() {
         Marked::Inside
     } else {
         Marked::Value
     };
-    append_key_line(page, key.name, value, marked);
+    line.append(page, spot, marked);
     page.push(" ");
     let meant = meant(page.alloc, key.want, value, spot);
     match page.accept(meant) {
@@ -114,24 +95,74 @@ fn wants_number(want: Want) -> bool {
     )
 }
 
+/// Returns the whole number that a value with a point or an exponent stands for, or `None` if it stands for none or its
+/// key needs no number. The only error is out of memory.
+fn whole_number(alloc: Global, want: Want, value: &Value) -> Result<Option<i64>, AllocError> {
+    match value {
+        Value::Float(number) if wants_number(want) => {
+            let digits = number.to_string(alloc)?;
+            Ok(digits.parse::<i64>().ok())
+        }
+        _ => Ok(None),
+    }
+}
+
 /// Appends what to do about a value of a wrong type.
-fn append_type_remark(page: &mut Page, want: Want, value: &Value) {
+fn append_type_remark(page: &mut Page, want: Want, value: &Value, whole: Option<i64>) {
+    if let Some(number) = whole {
+        return write!(page, "as a whole number it is {number}");
+    }
     match value {
         Value::String(word) if wants_number(want) => match word.parse::<i64>() {
             Ok(number) => write!(page, "without the quotes it is the number {number}"),
             Err(_) => append_type(page, want),
         },
-        Value::Integer(number) if matches!(want, Want::Name | Want::ServerName) => {
+        Value::Integer(number) if matches!(want, Want::Name) => {
             write!(page, "in quotes it is the text \"{number}\"")
         }
         _ => append_type(page, want),
     }
 }
 
+/// Returns whether a value is a number with a point or an exponent, or an array with such a number.
+fn has_fraction(value: &Value) -> bool {
+    match value {
+        Value::Array(entries) => entries.iter().any(|entry| entry.is_float()),
+        _ => value.is_float(),
+    }
+}
+
+/// Appends what helps against a value of a wrong type, if that is known.
+fn append_type_help(page: &mut Page, margin: usize, key: Key, value: &Value, spot: &Spot<'_>)
+    requires { margin ≤ 80 }
+{
+    match key.want {
+        Want::Tables(_) => append_brackets_help(page, margin, key.name),
+        Want::ServerName => append_servers_note(page, margin, spot.document.servers),
+        _ if key.is_time() && has_fraction(value) => append_help(
+            page,
+            margin,
+            "times are whole ticks; if that is too coarse, take a shorter tick",
+        ),
+        _ => {}
+    }
+}
+
 /// Appends the line of a value of a wrong type, with what to do about it.
-pub(crate) fn append_type_line(page: &mut Page, key: Key, value: &Value) {
-    append_key_line(page, key.name, value, Marked::Value);
+pub(crate) fn append_type_lines(
+    page: &mut Page,
+    line: &KeyLine,
+    key: Key,
+    value: &Value,
+    spot: &Spot<'_>,
+) {
+    let whole = whole_number(page.alloc, key.want, value);
+    let whole = page.accept(whole).flatten();
+    line.append(page, spot, Marked::Value);
     page.push(" ");
-    append_type_remark(page, key.want, value);
+    append_type_remark(page, key.want, value, whole);
     page.push("\n");
+    if whole.is_none() {
+        append_type_help(page, line.margin(), key, value, spot);
+    }
 }

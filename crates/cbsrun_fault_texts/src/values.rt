@@ -8,13 +8,14 @@ use toml::Value;
 /// Appends which type a value must have.
 pub(crate) fn append_type(page: &mut Page, want: Want) {
     match want {
-        Want::Number(_, _) | Want::Budget | Want::Server => page.push("a number"),
-        Want::Range(_, _) => page.push("a number or [least, greatest]"),
+        Want::Number(_, _) | Want::Budget | Want::Server => page.push("a whole number"),
+        Want::Range(_, _) => page.push("a whole number or [least, greatest]"),
         Want::Word(words) => page.push_list(words.list(), "\"", " or "),
-        Want::Name | Want::ServerName => page.push("a text"),
-        Want::Bound => page.push("two numbers, [N, D]"),
+        Want::Name => page.push("a text"),
+        Want::ServerName => page.push("the name of a server"),
+        Want::Bound => page.push("two whole numbers, [N, D]"),
         Want::Tables(_) => page.push("an array of tables"),
-        Want::Units => page.push("an array of numbers"),
+        Want::Units => page.push("an array of whole numbers"),
     }
 }
 

@@ -37,6 +37,8 @@ fn kind_of(top: &Table) -> Kind
 pub struct Document<'a> {
     /// The name of its file.
     pub name: &'a str,
+    /// The text of the file.
+    pub text: &'a str,
     /// The kind of the file.
     pub kind: Kind,
     /// Its top table.
@@ -46,12 +48,14 @@ pub struct Document<'a> {
 }
 
 impl<'a> Document<'a> {
-    /// Returns the document of a table.
-    pub fn new(name: &'a str, top: &'a Table) -> Document<'a>
-        ensures { IsDocument name.now (table_view top.now) result }
+    /// Returns the document of a file, by its name, its text and the table that it spells.
+    pub fn new(name: &'a str, text: &'a str, top: &'a Table) -> Document<'a>
+        ensures document { IsDocument name.now (table_view top.now) result }
+        ensures text { result.text.now ≡ text.now }
     {
         Document {
             name,
+            text,
             kind: kind_of(top),
             top,
             servers: entries(top, "server"),

@@ -39,16 +39,11 @@ fn first_key(kind: FileKind, table: &Table, spot: &Spot<'_>) -> Option<Key> {
     keys.find(|key| fault_of(*key, table, spot) == Some(kind))
 }
 
-/// Returns whether tables of this kind have a key.
-fn has_key(subject: Subject, name: &str) -> bool {
-    subject.keys().iter().any(|key| key.name == name)
-}
-
 /// Returns the first key that a table may not have, or `None` if there is none.
 fn unknown<'a>(table: &'a Table, subject: Subject) -> Option<Finding<'a>> {
     let (name, value) = table
         .iter()
-        .find(|entry| !has_key(subject, entry.0.as_str()))?;
+        .find(|entry| !subject.has_key(entry.0.as_str()))?;
     Some(Finding::Unknown(name.as_str(), value))
 }
 

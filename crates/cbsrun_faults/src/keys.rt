@@ -71,6 +71,18 @@ pub struct Key {
     pub want: Want,
 }
 
+impl Key {
+    /// Returns whether the key has a time, which is counted in ticks.
+    pub fn is_time(self) -> bool {
+        match self.name {
+            "units" => !matches!(self.want, Want::Units),
+            "budget" | "period" | "until" | "first" | "every" | "within" | "overrun" | "ticks" =>
+                true,
+            _ => false,
+        }
+    }
+}
+
 macro_rules! key {
     ($name:expr, $want:expr) => {
         Key {
@@ -215,6 +227,11 @@ impl Subject {
             Subject::OldAdvance => &OLD_ADVANCE_KEYS,
             Subject::Close => &CLOSE,
         }
+    }
+
+    /// Returns whether tables of this kind have a key.
+    pub(crate) fn has_key(self, name: &str) -> bool {
+        self.keys().iter().any(|key| key.name == name)
     }
 
     /// Returns the words for such a table.

@@ -48,7 +48,7 @@ fn absent_keys(
 
 /// Returns the key that may be meant by a key which the table may not have. That is the nearest of the keys which the
 /// table lacks, if it is near enough. The only error is out of memory.
-pub fn nearest_key(
+pub(crate) fn nearest_key(
     alloc: Global,
     spot: &Spot<'_>,
     key: &str,

@@ -24,3 +24,21 @@ fn a_comma_left_out(rt: HostRuntime) {
         .expect(&rt, "memory");
     same(&rt, "explanation", text.as_str(), EXPLAINED);
 }
+
+const EXPLAINED_ELSEWHERE: &str = "error: missing comma between the entries of an array
+  --> a\\u{1b}[31m.toml:3:12
+  |
+3 | bound = [1 1]
+  |            ^
+";
+
+#[test]
+fn a_file_whose_name_controls_a_terminal(rt: HostRuntime) {
+    let alloc = rt.alloc();
+    let bytes = COMMA_LEFT_OUT.as_bytes();
+    let fault = read_load(alloc, bytes).err().expect(&rt, "a fault");
+    let text = explain(alloc, "a\u{1b}[31m.toml", bytes, fault)
+        .ok()
+        .expect(&rt, "memory");
+    same(&rt, "explanation", text.as_str(), EXPLAINED_ELSEWHERE);
+}

@@ -3,15 +3,16 @@ use Rattle.std.specs.Prelude.{codes, string_bytes}
 use Rattle.std.proofs.lemmas.List.{append_assoc, append-nil}
 use Rattle.cbsrun_check_text.specs.Fractions.{fraction_text, percent_text}
 use Rattle.cbsrun_fault_texts.specs.Over.{row}
+use Rattle.cbsrun_fault_texts.specs.declared.over.Columns.{Columns}
 use Rattle.cbsrun_fault_texts.specs.Pages.{left_in, right_in}
 use Rattle.cbsrun_fault_texts.proofs.Pages.{then, as_text, accepted}
 use Rattle.cbsrun_fault_texts.proofs.over.append_row.Goals as goal
 
-row_is : (label end fraction percent : List ℕ) (part whole : ℕ) → fraction ≡ fraction_text part whole → percent ≡ percent_text part whole
-    → codes "   | " ++ (left_in 24 label ++ (codes "  " ++ (right_in 10 fraction ++ (codes "  " ++ (right_in 7 percent ++ (end ++ (codes "\n" ++ [])))))))
-    ≡ row label part whole end
+row_is : (columns : Columns) (label end fraction percent : List ℕ) (part whole : ℕ) → fraction ≡ fraction_text part whole → percent ≡ percent_text part whole
+    → codes "   | " ++ (left_in columns.label label ++ (codes "  " ++ (right_in columns.fraction fraction ++ (codes "  " ++ (right_in 7 percent ++ (end ++ (codes "\n" ++ [])))))))
+    ≡ row columns label part whole end
 unfolding row
-row_is label end fraction percent part whole f p = rw (f, p) (by (left_in 24 label) (right_in 10 (fraction_text part whole)) (right_in 7 (percent_text part whole)) end)
+row_is columns label end fraction percent part whole f p = rw (f, p) (by (left_in columns.label label) (right_in columns.fraction (fraction_text part whole)) (right_in 7 (percent_text part whole)) end)
   where
     by : (l f p e : List ℕ) → codes "   | " ++ (l ++ (codes "  " ++ (f ++ (codes "  " ++ (p ++ (e ++ (codes "\n" ++ []))))))) ≡ codes "   | " ++ l ++ codes "  " ++ f ++ codes "  " ++ p ++ e ++ codes "\n"
     by l f p e = simp (append_assoc, append-nil)
@@ -30,5 +31,5 @@ returns c =
     (then c.push-2.new.self c.push_right.new.self end _ _ c.push_right.ensures
     (then c.push_right.new.self c.push-3.new.self end _ _ c.push-3.ensures
     (then c.push-3.new.self c.push_right-2.new.self end _ _ c.push_right-2.ensures c.push_all.ensures))))))
-    (row_is c.args.label.now c.args.end.now c.deref.result.now c.deref-2.result.now c.args.ratio.part c.args.ratio.whole (c.deref.ensures ∙ fraction.0)
+    (row_is c.args.columns c.args.label.now c.args.end.now c.deref.result.now c.deref-2.result.now c.args.ratio.part c.args.ratio.whole (c.deref.ensures ∙ fraction.0)
     (c.deref-2.ensures ∙ percent.0)))

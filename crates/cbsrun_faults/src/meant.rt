@@ -1,0 +1,131 @@
+//! What may be meant by a key that a table may not have: a key that other tools call so, the same key of another kind of
+//! table, or a misspelt key.
+
+use crate::keys::Subject;
+use crate::nearest::nearest_key;
+use crate::spot::Spot;
+use cbsrun_toml_tables::optional;
+use std::alloc::{AllocError, Global};
+use toml::Table;
+
+/// What may be meant by a key that a table may not have.
+#[derive(Clone, Copy)]
+pub enum Meant {
+    /// This key, which the table lacks.
+    Key(&'static str),
+    /// The same key, of a table that is called so.
+    Elsewhere(&'static str),
+}
+
+/// A word of other tools, and the key for it.
+type Synonym = (&'static str, &'static str);
+
+static OF_SOURCES: [Synonym; 11] = [
+    ("deadline", "within"),
+    ("wcet", "units"),
+    ("cost", "units"),
+    ("time", "units"),
+    ("runtime", "units"),
+    ("period", "every"),
+    ("interval", "every"),
+    ("offset", "first"),
+    ("phase", "first"),
+    ("start", "first"),
+    ("count", "jobs"),
+];
+
+static OF_SERVERS: [Synonym; 4] = [
+    ("runtime", "budget"),
+    ("capacity", "budget"),
+    ("quota", "budget"),
+    ("deadline", "period"),
+];
+
+static OF_LOADS: [Synonym; 3] = [
+    ("duration", "until"),
+    ("end", "until"),
+    ("horizon", "until"),
+];
+
+/// A kind of table, and what it is called in a file of another kind or in another table.
+type Other = (Subject, &'static str);
+
+static BESIDE_LOADS: [Other; 3] = [
+    (Subject::FormatTwo, "a task file"),
+    (Subject::NamedServer, "a server"),
+    (Subject::Source, "a source"),
+];
+
+static BESIDE_TASKS: [Other; 2] = [
+    (Subject::Load, "a load file"),
+    (Subject::ModedServer, "a server"),
+];
+
+static BESIDE_SERVERS_OF_LOADS: [Other; 2] = [
+    (Subject::Source, "a source"),
+    (Subject::Load, "the top of the file"),
+];
+
+static BESIDE_SERVERS_OF_TASKS: [Other; 2] = [
+    (Subject::FormatOne, "the top of the file"),
+    (Subject::NamedServer, "a server of a load file"),
+];
+
+static BESIDE_SOURCES: [Other; 2] = [
+    (Subject::NamedServer, "a server"),
+    (Subject::Load, "the top of the file"),
+];
+
+/// Returns the words of other tools for the keys of a kind of table.
+fn synonyms(subject: Subject) -> &'static [Synonym] {
+    match subject {
+        Subject::Load => &OF_LOADS,
+        Subject::PlainServer | Subject::ModedServer | Subject::NamedServer => &OF_SERVERS,
+        Subject::Source => &OF_SOURCES,
+        _ => &[],
+    }
+}
+
+/// Returns the other kinds of tables to which a key may belong that stands in this kind of table.
+fn others(subject: Subject) -> &'static [Other] {
+    match subject {
+        Subject::FormatOne | Subject::FormatTwo => &BESIDE_TASKS,
+        Subject::Load => &BESIDE_LOADS,
+        Subject::PlainServer | Subject::ModedServer => &BESIDE_SERVERS_OF_TASKS,
+        Subject::NamedServer => &BESIDE_SERVERS_OF_LOADS,
+        Subject::Source => &BESIDE_SOURCES,
+        _ => &[],
+    }
+}
+
+/// Returns the key for a word of other tools, or `None` if there is none or the table has it.
+fn synonym(subject: Subject, table: &Table, word: &str) -> Option<&'static str> {
+    let mut words = synonyms(subject).iter().copied();
+    let (_, key) = words.find(|synonym| synonym.0.eq_ignore_ascii_case(word))?;
+    match optional(table, key) {
+        Some(_) => None,
+        None => Some(key),
+    }
+}
+
+/// Returns what a kind of table is called that has a key, or `None` if there is none.
+fn elsewhere(subject: Subject, name: &str) -> Option<&'static str> {
+    let mut kinds = others(subject).iter().copied();
+    let (_, phrase) = kinds.find(|other| other.0.has_key(name))?;
+    Some(phrase)
+}
+
+/// Returns what may be meant by a key that the table may not have, or `None` if nothing is known. The only error is out
+/// of memory.
+pub fn meant_by(alloc: Global, spot: &Spot<'_>, key: &str) -> Result<Option<Meant>, AllocError> {
+    let Some(table) = spot.table else {
+        return Ok(None);
+    };
+    if let Some(name) = synonym(spot.subject, table, key) {
+        return Ok(Some(Meant::Key(name)));
+    }
+    if let Some(phrase) = elsewhere(spot.subject, key) {
+        return Ok(Some(Meant::Elsewhere(phrase)));
+    }
+    Ok(nearest_key(alloc, spot, key)?.map(Meant::Key))
+}
