@@ -1,5 +1,5 @@
 -- Bars cover exactly the ticks of units.
-use Rattle.std.proofs.Common.{◌≡◌, ◌∙◌, ℕ, ◌<◌, ◌≤◌, Bool, true, false, ◌&&◌, ◌||◌, eqb, ltb, cond, List, [], ◌∷◌, length, Option, Some, None, arith, refl, sym}
+use Rattle.std.proofs.Common.{◌≡◌, ◌∙◌, ℕ, ◌<◌, ◌≤◌, Bool, true, false, ◌&&◌, ◌||◌, eqb, ltb, List, [], ◌∷◌, length, Option, Some, None, arith, refl, sym}
 use Rattle.std.proofs.Common.{ap, subst, inl, inr}
 use Rattle.std.specs.Prelude.{set, slice_get}
 use Rattle.std.proofs.lemmas.Bool.{cases_Bool}
@@ -18,7 +18,7 @@ use Rattle.cbsrun_chart.specs.Courses.{course_until}
 use Rattle.cbsrun_chart.specs.Marks.{deadlines_until}
 use Rattle.cbsrun_chart.specs.Jobs.{all_jobs}
 use Rattle.cbsrun_chart.specs.Rows.{came_of, kind_of, last_of, resting_stretch, spans_seen, spans_until, step_stretch, throttled_stretch, waiting_stretch}
-use Rattle.cbsrun_window.specs.Stretches.{Joined, all_of, is_covered, same_kind, shows, takes, with_stretch}
+use Rattle.cbsrun_window.specs.Stretches.{Joined, all_of, is_covered, same_kind, shows, with_stretch}
 use Rattle.cbsrun_chart.specs.declared.chart.Chart.{Chart}
 use Rattle.cbsrun_chart.specs.declared.chart.ServerChart.{ServerChart}
 use Rattle.cbsrun_window.specs.declared.stretch.Kind.TheVariants as kind
