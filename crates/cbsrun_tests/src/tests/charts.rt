@@ -236,6 +236,7 @@ fn a_job_waits_from_when_it_came_in_anothers_charge(rt: HostRuntime) -> Result<(
         )?;
     }
     let chart = view.into_chart(rt.alloc(), 25)?;
+    assert!(rt; chart.servers.len() == 3);
     same_stretches(&rt, "throttled", &chart.servers[0].spans, &HELD);
     same_stretches(&rt, "soft", &chart.servers[1].spans, &WAITED);
     Ok(())
