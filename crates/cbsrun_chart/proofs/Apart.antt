@@ -5,7 +5,7 @@ use Rattle.std.specs.Option.{option_to_list}
 use Rattle.std.proofs.lemmas.Bool.{cases_Bool}
 use Rattle.cbsrun_events.specs.Events.{begun}
 use Rattle.cbsrun_events.specs.declared.seen.Seen.{Seen}
-use Rattle.cbsrun_chart.specs.Rows.{last_of, spans_seen, spans_until, step_stretch, throttled_stretch, waiting_stretch}
+use Rattle.cbsrun_chart.specs.Rows.{came_of, last_of, resting_stretch, spans_seen, spans_until, step_stretch, throttled_stretch, waiting_stretch}
 use Rattle.cbsrun_window.specs.Stretches.{AreApart, Joined, all_of, clipped, joins, joined_with, nothing_joined, with_stretch}
 use Rattle.cbsrun_window.specs.declared.stretch.Stretch.{Stretch}
 use Rattle.cbsrun_chart.specs.declared.waits.Last.{Last}
@@ -50,17 +50,21 @@ apart_with w p j h = elim (cases_Bool (ltb (max p.from w.from) (min p.to w.to)))
 apart_none : IsApart nothing_joined
 apart_none = record { apart = tt; last = refl }
 
-apart_until : (w : Window) (last : Option Last) (to : ℕ) (j : Joined) → IsApart j → IsApart (spans_until w last to j)
-apart_until w None to j h = h
-apart_until w (Some l) to j h = apart_with w (waiting_stretch l to) (with_stretch w (throttled_stretch l to) j) (apart_with w (throttled_stretch l to) j h)
+apart_until : (w : Window) (last : Option Last) (came : Option ℕ) (to : ℕ) (j : Joined) → IsApart j → IsApart (spans_until w last came to j)
+apart_until w None came to j h = h
+apart_until w (Some l) came to j h =
+    let rests = with_stretch w (resting_stretch l came to) j in
+    let throttled = with_stretch w (throttled_stretch l came to) rests in
+    apart_with w (waiting_stretch l came to) throttled
+    (apart_with w (throttled_stretch l came to) rests (apart_with w (resting_stretch l came to) j h))
 
 -- the stretches of a server are apart
 apart_seen : (w : Window) (own : List Seen) → IsApart (spans_seen w own)
 apart_seen w [] = apart_none
 apart_seen w (o ∷ own) =
-    apart_with w (step_stretch o) (spans_until w (last_of own) (begun o) (spans_seen w own))
-    (apart_until w (last_of own) (begun o) (spans_seen w own) (apart_seen w own))
+    apart_with w (step_stretch o) (spans_until w (last_of own) (came_of o.event) (begun o) (spans_seen w own))
+    (apart_until w (last_of own) (came_of o.event) (begun o) (spans_seen w own) (apart_seen w own))
 
 -- they are apart also after its last step
-pub apart_at_end : (w : Window) (end : ℕ) (own : List Seen) → AreApart (all_of (spans_until w (last_of own) end (spans_seen w own)))
-apart_at_end w end own = let h = apart_until w (last_of own) end (spans_seen w own) (apart_seen w own) in h.apart
+pub apart_at_end : (w : Window) (end : ℕ) (own : List Seen) → AreApart (all_of (spans_until w (last_of own) None end (spans_seen w own)))
+apart_at_end w end own = let h = apart_until w (last_of own) None end (spans_seen w own) (apart_seen w own) in h.apart

@@ -1,5 +1,5 @@
 -- Bars cover exactly the ticks of units.
-use Rattle.std.proofs.Common.{◌≡◌, ◌∙◌, ℕ, ◌<◌, ◌≤◌, Bool, true, false, ◌&&◌, ◌||◌, eqb, ltb, cond, List, [], ◌∷◌, length, Option, Some, None, arith, refl, sym}
+use Rattle.std.proofs.Common.{◌≡◌, ◌∙◌, ℕ, ◌<◌, ◌≤◌, Bool, true, false, ◌&&◌, ◌||◌, eqb, ltb, List, [], ◌∷◌, length, Option, Some, None, arith, refl, sym}
 use Rattle.std.proofs.Common.{ap, subst, inl, inr}
 use Rattle.std.specs.Prelude.{set, slice_get}
 use Rattle.std.proofs.lemmas.Bool.{cases_Bool}
@@ -17,8 +17,8 @@ use Rattle.cbsrun_chart.specs.Charts.{row_seen, runs_unit_of, took, IsRowChart}
 use Rattle.cbsrun_chart.specs.Courses.{course_until}
 use Rattle.cbsrun_chart.specs.Marks.{deadlines_until}
 use Rattle.cbsrun_chart.specs.Jobs.{all_jobs}
-use Rattle.cbsrun_chart.specs.Rows.{has_job, kind_of, last_of, spans_seen, spans_until, step_stretch, throttled_stretch, waiting_stretch}
-use Rattle.cbsrun_window.specs.Stretches.{Joined, all_of, is_covered, same_kind, shows, takes, with_stretch}
+use Rattle.cbsrun_chart.specs.Rows.{came_of, kind_of, last_of, resting_stretch, spans_seen, spans_until, step_stretch, throttled_stretch, waiting_stretch}
+use Rattle.cbsrun_window.specs.Stretches.{Joined, all_of, is_covered, same_kind, shows, with_stretch}
 use Rattle.cbsrun_chart.specs.declared.chart.Chart.{Chart}
 use Rattle.cbsrun_chart.specs.declared.chart.ServerChart.{ServerChart}
 use Rattle.cbsrun_window.specs.declared.stretch.Kind.TheVariants as kind
@@ -29,24 +29,23 @@ use Rattle.cbsrun_chart.proofs.Covers.{with_covers}
 use Rattle.cbsrun_chart.proofs.Rows.{AreRowCharts, charts_count, chart_at}
 use Rattle.cbsrun_chart.proofs.Ticks.{ticks_covered}
 
--- a server that is throttled or waits runs no unit
-not_throttled : (j t : ℕ) (b x : Bool) → (same_kind (cond b kind.Throttled kind.Resting) (kind.Runs j) && x) ≡ false
-not_throttled j t true x = refl
-not_throttled j t false x = refl
+-- until a step of its own, a server runs no unit, so its bars stay as they were
+three_none : (x a b c : Bool) → a ≡ false → b ≡ false → c ≡ false → (((x || a) || b) || c) ≡ x
+three_none true a b c e f g = refl
+three_none false a b c e f g = rw (e, f, g) refl
 
-or_none : (x a b : Bool) → a ≡ false → b ≡ false → ((x || a) || b) ≡ x
-or_none true a b e f = refl
-or_none false a b e f = rw (e, f) refl
-
--- until a step of its own, the bars of a server stay as they were
-bars_until : (w : Window) (j t : ℕ) (last : Option Last) (to : ℕ) (s : Joined) → w.from ≤ t → t < w.to
-    → is_covered (kind.Runs j) t (all_of (spans_until w last to s)) ≡ is_covered (kind.Runs j) t (all_of s)
-bars_until w j t None to s a b = refl
-bars_until w j t (Some l) to s a b =
-    with_covers w (kind.Runs j) t (waiting_stretch l to) (with_stretch w (throttled_stretch l to) s) a b
-    ∙ (ap (λ x. x || shows (kind.Runs j) t (waiting_stretch l to)) (with_covers w (kind.Runs j) t (throttled_stretch l to) s a b)
-    ∙ or_none (is_covered (kind.Runs j) t (all_of s)) (shows (kind.Runs j) t (throttled_stretch l to)) (shows (kind.Runs j) t (waiting_stretch l to))
-    (not_throttled j t (has_job l.view) (takes t (throttled_stretch l to))) refl)
+bars_until : (w : Window) (j t : ℕ) (last : Option Last) (came : Option ℕ) (to : ℕ) (s : Joined) → w.from ≤ t → t < w.to
+    → is_covered (kind.Runs j) t (all_of (spans_until w last came to s)) ≡ is_covered (kind.Runs j) t (all_of s)
+bars_until w j t None came to s a b = refl
+bars_until w j t (Some l) came to s a b =
+    let k = kind.Runs j in
+    let rests = with_stretch w (resting_stretch l came to) s in
+    let throttled = with_stretch w (throttled_stretch l came to) rests in
+    with_covers w k t (waiting_stretch l came to) throttled a b
+    ∙ (ap (λ x. x || shows k t (waiting_stretch l came to)) (with_covers w k t (throttled_stretch l came to) rests a b)
+    ∙ (ap (λ x. (x || shows k t (throttled_stretch l came to)) || shows k t (waiting_stretch l came to)) (with_covers w k t (resting_stretch l came to) s a b)
+    ∙ three_none (is_covered k t (all_of s)) (shows k t (resting_stretch l came to)) (shows k t (throttled_stretch l came to))
+    (shows k t (waiting_stretch l came to)) refl refl refl))
 
 and_true : (a b : Bool) → a ≡ true → b ≡ (a && b)
 and_true true b e = refl
@@ -101,8 +100,9 @@ bars_seen w s j t (o ∷ seen) a b = elim (cases_Bool (is_server s (server_of o.
       let own = steps_of s seen in
       let before = spans_seen w own in
       let unit : same_kind (kind_of o.event) (kind.Runs j) ≡ runs_unit_of s j o.event = own_unit s j o.event y in
-      rw y (with_covers w (kind.Runs j) t (step_stretch o) (spans_until w (last_of own) (begun o) before) a b
-      ∙ (ap (λ x. x || shows (kind.Runs j) t (step_stretch o)) (bars_until w j t (last_of own) (begun o) before a b ∙ bars_seen w s j t seen a b)
+      let came = came_of o.event in
+      rw y (with_covers w (kind.Runs j) t (step_stretch o) (spans_until w (last_of own) came (begun o) before) a b
+      ∙ (ap (λ x. x || shows (kind.Runs j) t (step_stretch o)) (bars_until w j t (last_of own) came (begun o) before a b ∙ bars_seen w s j t seen a b)
       ∙ (ap (λ x. ran s j t seen || (x && took t o)) unit ∙ swapped (ran s j t seen) (runs_unit_of s j o.event && took t o))))
   | inr n ↦
       rw n (bars_seen w s j t seen a b ∙ ap (λ x. x || ran s j t seen) (sym (and_false (runs_unit_of s j o.event) (took t o) (other_unit s j o.event n))))
@@ -110,8 +110,9 @@ bars_seen w s j t (o ∷ seen) a b = elim (cases_Bool (is_server s (server_of o.
 
 -- the same with what comes after its last step
 pub bars_at_end : (w : Window) (s j t end : ℕ) (seen : List Seen) → w.from ≤ t → t < w.to
-    → is_covered (kind.Runs j) t (all_of (spans_until w (last_of (steps_of s seen)) end (spans_seen w (steps_of s seen)))) ≡ ran s j t seen
-bars_at_end w s j t end seen a b = let own = steps_of s seen in bars_until w j t (last_of own) end (spans_seen w own) a b ∙ bars_seen w s j t seen a b
+    → is_covered (kind.Runs j) t (all_of (spans_until w (last_of (steps_of s seen)) None end (spans_seen w (steps_of s seen)))) ≡ ran s j t seen
+bars_at_end w s j t end seen a b =
+    let own = steps_of s seen in bars_until w j t (last_of own) None end (spans_seen w own) a b ∙ bars_seen w s j t seen a b
 
 -- what is collected of servers with these reservations, from the steps that were seen
 pub record AreRows (w : Window) (rates : List Rate) (seen : List Seen) (k : Kept) : Type 0 where
@@ -201,17 +202,17 @@ chart_seen w rates end seen k c is window idle charts =
       bars = λ s j t server e a b. ap (is_covered (kind.Runs j) t) (spans s server e) ∙ bars_at_end w s j t end seen a b;
       ticks = λ s t server e turn a b early does.
           let before : ltb t end ≡ true = grind (arith, nat_tests) in
-          ap (is_covered does t) (spans s server e) ∙ (ticks_covered w does t end (steps_of s seen) a b turn ∙ rw before refl);
+          ap (is_covered does t) (spans s server e) ∙ (ticks_covered w does t None end (steps_of s seen) a b turn ∙ rw before refl);
       apart = λ s server e. rw (spans s server e) (apart_at_end w end (steps_of s seen));
     })
   where
     spans_of : (w : Window) (rates : List Rate) (end : ℕ) (seen : List Seen) (k : Kept) (cs : List ServerChart) → AreRows w rates seen k
         → AreRowCharts w end k.rows cs → (s : ℕ) (server : ServerChart) → slice_get cs s ≡ Some server
-        → server.spans.items ≡ all_of (spans_until w (last_of (steps_of s seen)) end (spans_seen w (steps_of s seen)))
+        → server.spans.items ≡ all_of (spans_until w (last_of (steps_of s seen)) None end (spans_seen w (steps_of s seen)))
     spans_of w rates end seen k cs rows charts s server e =
         let at = chart_at w end k.rows cs s server charts e in
         let lt : s < length rates = let h = at.0 in omega (arith, rows.count) in
-        at.1.spans ∙ ap (λ r. all_of (spans_until w r.last end r.spans)) (rows.rows s lt)
+        at.1.spans ∙ ap (λ r. all_of (spans_until w r.last None end r.spans)) (rows.rows s lt)
 
     server_chart : (w : Window) (rates : List Rate) (end : ℕ) (seen : List Seen) (k : Kept) (s : ℕ) (server : ServerChart) → AreRows w rates seen k
         → (s < length k.rows) × IsRowChart w end (row_at k.rows s) server → IsServerChart w (rate_at rates s) end (steps_of s seen) server
@@ -219,7 +220,7 @@ chart_seen w rates end seen k c is window idle charts =
         let lt : s < length rates = let h = at.0 in omega (arith, rows.count) in
         let row = rows.rows s lt in
         record {
-          spans = at.1.spans ∙ ap (λ r. all_of (spans_until w r.last end r.spans)) row;
+          spans = at.1.spans ∙ ap (λ r. all_of (spans_until w r.last None end r.spans)) row;
           refused = at.1.refused ∙ ap (λ r. all_of r.refused) row;
           refusals = at.1.refusals ∙ ap (λ r. r.refusals) row;
           arrivals = at.1.arrivals ∙ ap (λ r. r.arrivals) row;

@@ -13,7 +13,7 @@ use Rattle.cbsrun_events.specs.declared.seen.Seen.{Seen}
 use Rattle.cbsrun_chart.specs.Courses.{CourseSeen, course_after, course_until, course_seen, no_course}
 use Rattle.cbsrun_chart.specs.Marks.{deadlines_after, deadlines_until, deadlines_seen, arrivals_after, arrivals_seen, refusals_after, refusals_seen}
 use Rattle.cbsrun_chart.specs.Jobs.{JobsSeen, jobs_after, jobs_seen, no_jobs, all_jobs, completions, late_stretch}
-use Rattle.cbsrun_chart.specs.Rows.{idle_after, last_of, last_seen, refused_after, refused_seen, spans_after, spans_until, spans_seen}
+use Rattle.cbsrun_chart.specs.Rows.{at_start, idle_after, last_of, last_seen, refused_after, refused_seen, spans_after, spans_until, spans_seen}
 use Rattle.cbsrun_chart.specs.Ticks.{AreInTurn, is_kind, kind_at}
 use Rattle.cbsrun_window.specs.Stretches.{AreApart, Joined, all_of, is_covered, nothing_joined, takes}
 use Rattle.cbsrun_chart.specs.declared.chart.Chart.{Chart}
@@ -41,7 +41,7 @@ pub record RowSeen : Type 0 where
 abbrev pub new_row : Rate → RowSeen
 new_row r = record {
   reservation = r;
-  last = None;
+  last = Some at_start;
   spans = nothing_joined;
   refused = nothing_joined;
   refusals = 0;
@@ -84,7 +84,7 @@ abbrev pub row_until : Window → ℕ → RowSeen → RowSeen
 row_until w to row = record {
   reservation = row.reservation;
   last = row.last;
-  spans = spans_until w row.last to row.spans;
+  spans = spans_until w row.last None to row.spans;
   refused = row.refused;
   refusals = row.refusals;
   arrivals = row.arrivals;
@@ -131,7 +131,7 @@ idle_seen w (o ∷ seen) = if is_none (server_of o.event) then idle_after w o (i
 
 -- what a picture shows of a server with this reservation, from its steps, in a run that ends at this tick
 pub record IsServerChart (w : Window) (r : Rate) (end : ℕ) (own : List Seen) (c : ServerChart) : Type 0 where
-  pub spans : c.spans.items ≡ all_of (spans_until w (last_of own) end (spans_seen w own))
+  pub spans : c.spans.items ≡ all_of (spans_until w (last_of own) None end (spans_seen w own))
   pub refused : c.refused.items ≡ all_of (refused_seen w own)
   pub refusals : c.refusals ≡ refusals_seen w own
   pub arrivals : c.arrivals.items ≡ arrivals_seen w own
@@ -187,7 +187,7 @@ LateCovered w end jobs late =
 
 -- what a window shows of a server, from what was collected of it
 pub record IsRowChart (w : Window) (end : ℕ) (row : RowSeen) (c : ServerChart) : Type 0 where
-  pub spans : c.spans.items ≡ all_of (spans_until w row.last end row.spans)
+  pub spans : c.spans.items ≡ all_of (spans_until w row.last None end row.spans)
   pub refused : c.refused.items ≡ all_of row.refused
   pub refusals : c.refusals ≡ row.refusals
   pub arrivals : c.arrivals.items ≡ row.arrivals

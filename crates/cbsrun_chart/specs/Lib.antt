@@ -1,5 +1,6 @@
 pub mod Charts
 pub mod Courses
+pub mod Hidden
 pub mod Jobs
 pub mod Marks
 pub mod Rows

@@ -1,5 +1,5 @@
 -- What a server does in each tick, from its steps. The steps stand with the newest first.
-use Rattle.std.specs.Prelude.{ℕ, ◌+◌, Bool, ltb, if◌then◌else◌, max, min, List, [], ◌∷◌, Option, Some, None}
+use Rattle.std.specs.Prelude.{ℕ, ◌+◌, Bool, false, ltb, if◌then◌else◌, max, min, List, [], ◌∷◌, unwrap_or, Option, Some, None}
 use Rattle.cbs_steps.specs.declared.reply.Ran.{Ran}
 use Rattle.cbs_steps.specs.declared.reply.Ran.TheVariants as ran
 use Rattle.cbs_steps.specs.declared.view.ServerView.{ServerView}
@@ -19,9 +19,16 @@ abbrev pub last_seen : ℕ → Option ServerView → Option Last
 last_seen clock None = None
 last_seen clock (Some v) = Some (record { clock = clock; view = v })
 
--- the same after the newest of its steps
+-- a server before its first step: it has no job and no budget, and is not throttled
+abbrev pub at_start : Last
+at_start = record {
+  clock = 0;
+  view = record { budget = 0; deadline = 0; throttled = false; closed = false; accepted = 0; finished = 0 };
+}
+
+-- the view of a server after the newest of its steps
 abbrev pub last_of : List Seen → Option Last
-last_of [] = None
+last_of [] = Some at_start
 last_of (o ∷ own) = last_seen o.clock o.view
 
 -- a server with this view has an unfinished job
@@ -32,18 +39,29 @@ has_job v = ltb v.finished v.accepted
 abbrev pub throttled_until : ServerView → ℕ → ℕ → ℕ
 throttled_until v from to = if v.throttled then max (min v.deadline to) from else from
 
--- the ticks up to `to` in which the server is throttled
-abbrev pub throttled_stretch : Last → ℕ → Stretch
-throttled_stretch l to = record { kind = if has_job l.view then kind.Throttled else kind.Resting; from = l.clock; to = throttled_until l.view l.clock to }
+-- the tick at which the job came that a step accepts, if it accepts one. A charge of another server may have passed
+-- that tick
+abbrev pub came_of : Event → Option ℕ
+came_of (event.Accepted job number promised) = Some job.came
+came_of _ = None
+
+-- the tick from which on a server has a job, before its next step, at the tick `to`: at once, if it has an unfinished
+-- one, and else from when the job came that this step accepts. If it accepts none, the server has none before `to`
+abbrev pub job_from : Last → Option ℕ → ℕ → ℕ
+job_from l came to = if has_job l.view then l.clock else max (unwrap_or came to) l.clock
+
+-- the ticks up to `to` in which the server is throttled and has no job
+abbrev pub resting_stretch : Last → Option ℕ → ℕ → Stretch
+resting_stretch l came to =
+    record { kind = kind.Resting; from = l.clock; to = min (throttled_until l.view l.clock to) (job_from l came to) }
+
+-- the ticks up to `to` in which the server is throttled and has a job
+abbrev pub throttled_stretch : Last → Option ℕ → ℕ → Stretch
+throttled_stretch l came to = record { kind = kind.Throttled; from = job_from l came to; to = throttled_until l.view l.clock to }
 
 -- the ticks up to `to` in which the server has a job, is not throttled, and does not run
-abbrev pub waiting_stretch : Last → ℕ → Stretch
-waiting_stretch l to =
-    record {
-      kind = kind.Waits;
-      from = throttled_until l.view l.clock to;
-      to = if has_job l.view then to else throttled_until l.view l.clock to;
-    }
+abbrev pub waiting_stretch : Last → Option ℕ → ℕ → Stretch
+waiting_stretch l came to = record { kind = kind.Waits; from = max (throttled_until l.view l.clock to) (job_from l came to); to = to }
 
 -- what goes on in the ticks of a run
 abbrev pub kind_of_run : Ran → Kind
@@ -61,14 +79,16 @@ kind_of _ = kind.Idle
 abbrev pub step_stretch : Seen → Stretch
 step_stretch o = record { kind = kind_of o.event; from = begun o; to = o.clock }
 
--- the stretches of a server up to a tick, before which it makes no further step
-abbrev pub spans_until : Window → Option Last → ℕ → Joined → Joined
-spans_until w None to j = j
-spans_until w (Some l) to j = with_stretch w (waiting_stretch l to) (with_stretch w (throttled_stretch l to) j)
+-- the stretches of a server up to a tick, before which it makes no further step, by when the job came that it accepts
+-- then
+abbrev pub spans_until : Window → Option Last → Option ℕ → ℕ → Joined → Joined
+spans_until w None came to j = j
+spans_until w (Some l) came to j =
+    with_stretch w (waiting_stretch l came to) (with_stretch w (throttled_stretch l came to) (with_stretch w (resting_stretch l came to) j))
 
 -- the stretches after one more step
 abbrev pub spans_after : Window → Option Last → Seen → Joined → Joined
-spans_after w last o j = with_stretch w (step_stretch o) (spans_until w last (begun o) j)
+spans_after w last o j = with_stretch w (step_stretch o) (spans_until w last (came_of o.event) (begun o) j)
 
 -- the stretches after all steps: what the server does in each tick of the window
 abbrev pub spans_seen : Window → List Seen → Joined

@@ -4,6 +4,7 @@
 mod chart;
 mod course;
 mod deadlines;
+mod hidden;
 mod jobs;
 mod marks;
 mod picture;
@@ -15,6 +16,7 @@ mod waits;
 pub use cbsrun_window::{Counts, Kind, MOST_TICKS, Stretch, Window, WindowError};
 pub use chart::{Chart, ServerChart};
 pub use course::Corner;
+pub use hidden::Hidden;
 pub use jobs::{ChartJob, job_numbered};
 pub use picture::{Drawn, Picture};
 pub use view::ChartView;

@@ -8,7 +8,7 @@ use crate::course::Course;
 use crate::deadlines::{add_deadlines, add_renewed};
 use crate::jobs::Jobs;
 use crate::marks::{add_arrival, refusals_after};
-use crate::steps::stretch_of;
+use crate::steps::{came_of, stretch_of};
 use crate::waits::Last;
 use cbs_rate::Reservation;
 use cbsrun_events::{Event, Seen};
@@ -48,21 +48,24 @@ impl Model for Row {
     } };
 }
 
-/// Adds the stretches from a server's last step up to the tick `to`, before which it makes no further step.
+/// Adds the stretches from a server's last step up to its next one, at the tick `to`. The job that the next one accepts,
+/// if it accepts one, came at `came`.
 #[inline]
 fn add_spans(
     window: Window,
     last: Option<Last>,
+    came: Option<u64>,
     to: u64,
     spans: &mut Stretches,
 ) -> Result<(), AllocError>
-    ensures { OnOk result (spans.new ≡ spans_until window last to spans.old) }
+    ensures { OnOk result (spans.new ≡ spans_until window last came to spans.old) }
 {
     let Some(last) = last else {
         return Ok(());
     };
-    spans.add(window, last.throttled(to))?;
-    spans.add(window, last.waiting(to))
+    spans.add(window, last.resting(came, to))?;
+    spans.add(window, last.throttled(came, to))?;
+    spans.add(window, last.waiting(came, to))
 }
 
 /// Adds the tick of a refused release, if the step is a refusal.
@@ -88,7 +91,7 @@ impl Row {
     {
         Row {
             reservation,
-            last: None,
+            last: Some(Last::at_start()),
             spans: Stretches::new(alloc),
             refused: Stretches::new(alloc),
             refusals: 0,
@@ -105,7 +108,8 @@ impl Row {
         ensures { OnOk result (self.new ≡ row_after window seen.now self.old) }
     {
         let last = self.last;
-        add_spans(window, last, seen.begun(), &mut self.spans)?;
+        let came = came_of(&seen.event);
+        add_spans(window, last, came, seen.begun(), &mut self.spans)?;
         self.spans.add(window, stretch_of(seen))?;
         add_refused(window, &seen.event, &mut self.refused)?;
         self.refusals = refusals_after(window, &seen.event, self.refusals);
@@ -122,7 +126,7 @@ impl Row {
         ensures { OnOk result (self.new ≡ row_until window to self.old) }
     {
         let last = self.last;
-        add_spans(window, last, to, &mut self.spans)?;
+        add_spans(window, last, None, to, &mut self.spans)?;
         add_renewed(window, self.reservation, last, to, &mut self.deadlines)?;
         self.course.add_renewed(window, self.reservation, last, to)
     }

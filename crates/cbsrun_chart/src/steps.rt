@@ -1,7 +1,7 @@
 //! What goes on in the ticks of a step.
 
 ghost use Rattle.std.specs.Prelude.{◌≡◌};
-ghost use Rattle.cbsrun_chart.specs.Rows.{kind_of, kind_of_run, step_stretch};
+ghost use Rattle.cbsrun_chart.specs.Rows.{came_of, kind_of, kind_of_run, step_stretch};
 
 use cbs_steps::Ran;
 use cbsrun_events::{Event, Seen};
@@ -26,6 +26,18 @@ fn kind_of(event: &Event) -> Kind
         Event::Ran(ran) => kind_of_run(*ran),
         Event::Charged { .. } => Kind::Charged,
         _ => Kind::Idle,
+    }
+}
+
+/// Returns the tick at which the job came that a step accepts, or `None` if it accepts none. A charge of another server
+/// may have passed that tick.
+#[inline]
+pub(crate) fn came_of(event: &Event) -> Option<u64>
+    ensures { result ≡ came_of event.now }
+{
+    match event {
+        Event::Accepted { job, .. } => Some(job.came),
+        _ => None,
     }
 }
 

@@ -1,7 +1,7 @@
 //! What a server does between two of its steps.
 
 ghost use Rattle.std.specs.Prelude.{◌≡◌};
-ghost use Rattle.cbsrun_chart.specs.Rows.{has_job, last_seen, throttled_stretch, throttled_until, waiting_stretch};
+ghost use Rattle.cbsrun_chart.specs.Rows.{at_start, has_job, job_from, last_seen, resting_stretch, throttled_stretch, throttled_until, waiting_stretch};
 
 use cbs_steps::ServerView;
 use cbsrun_window::{Kind, Stretch};
@@ -35,6 +35,23 @@ fn throttled_until(view: &ServerView, from: u64, to: u64) -> u64
 }
 
 impl Last {
+    /// Returns the view of a server before its first step: the server has no job and no budget, and is not throttled.
+    pub fn at_start() -> Last
+        ensures { result ≡ at_start }
+    {
+        Last {
+            clock: 0,
+            view: ServerView {
+                budget: 0,
+                deadline: 0,
+                throttled: false,
+                closed: false,
+                accepted: 0,
+                finished: 0,
+            },
+        }
+    }
+
     /// Returns the view of a server after a step with the clock, or `None` if there is no view.
     pub fn of(clock: u64, view: Option<ServerView>) -> Option<Last>
         ensures { result ≡ last_seen clock view }
@@ -43,31 +60,48 @@ impl Last {
         Some(Last { clock, view })
     }
 
-    /// Returns the ticks up to the tick `to` in which the server is throttled.
-    pub fn throttled(&self, to: u64) -> Stretch
-        ensures { result ≡ throttled_stretch self.now to }
+    /// Returns the tick from which on the server has a job, before its next step at the tick `to`. The job that this
+    /// step accepts, if it accepts one, came at `came`. Returns `to` or later if the server has no job.
+    fn job_from(&self, came: Option<u64>, to: u64) -> u64
+        ensures { result ≡ job_from self.now came to }
     {
-        let kind = if has_job(&self.view) {
-            Kind::Throttled
-        } else {
-            Kind::Resting
-        };
+        if has_job(&self.view) {
+            return self.clock;
+        }
+        came.unwrap_or(to).max(self.clock)
+    }
+
+    /// Returns the ticks up to the next step, at the tick `to`, in which the server is throttled and has no job.
+    pub fn resting(&self, came: Option<u64>, to: u64) -> Stretch
+        ensures { result ≡ resting_stretch self.now came to }
+    {
         Stretch {
-            kind,
+            kind: Kind::Resting,
             from: self.clock,
+            to: throttled_until(&self.view, self.clock, to).min(self.job_from(came, to)),
+        }
+    }
+
+    /// Returns the ticks up to the next step, at the tick `to`, in which the server is throttled and has a job.
+    pub fn throttled(&self, came: Option<u64>, to: u64) -> Stretch
+        ensures { result ≡ throttled_stretch self.now came to }
+    {
+        Stretch {
+            kind: Kind::Throttled,
+            from: self.job_from(came, to),
             to: throttled_until(&self.view, self.clock, to),
         }
     }
 
-    /// Returns the ticks up to the tick `to` in which the server has a job, is not throttled, and does not run.
-    pub fn waiting(&self, to: u64) -> Stretch
-        ensures { result ≡ waiting_stretch self.now to }
+    /// Returns the ticks up to the next step, at the tick `to`, in which the server has a job, is not throttled, and
+    /// does not run.
+    pub fn waiting(&self, came: Option<u64>, to: u64) -> Stretch
+        ensures { result ≡ waiting_stretch self.now came to }
     {
-        let from = throttled_until(&self.view, self.clock, to);
         Stretch {
             kind: Kind::Waits,
-            from,
-            to: if has_job(&self.view) { to } else { from },
+            from: throttled_until(&self.view, self.clock, to).max(self.job_from(came, to)),
+            to,
         }
     }
 }

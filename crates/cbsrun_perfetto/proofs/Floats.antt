@@ -4,8 +4,9 @@ use Rattle.std.specs.declared.alloc.Global.{Global}
 use Rattle.std.proofs.lemmas.Result.{IfOk-weaker}
 use Rattle.serde_json.specs.Data.{Data}
 use Rattle.serde_json.specs.Written.{compact_text, has_float}
+use Rattle.cbsrun_chart.specs.declared.hidden.Hidden.{Hidden}
 use Rattle.cbsrun_chart.specs.declared.jobs.ChartJob.{ChartJob}
-use Rattle.cbsrun_perfetto.specs.Events.{LineSeen, about_data, budget_args, budget_data, instant_data, job_args, line_of, on_thread, slice_data, whole_if}
+use Rattle.cbsrun_perfetto.specs.Events.{LineSeen, about_data, budget_args, budget_data, hidden_args, hidden_data, instant_data, job_args, line_of, on_thread, slice_data, whole_if}
 
 -- a number, or its absence, has no fraction
 whole_if_plain : (n : Option ℕ) → has_float (whole_if n) ≡ false
@@ -32,6 +33,11 @@ instant_plain name cat thread tick args plain = rw plain refl
 pub budget_plain : (name : List ℕ) (thread tick budget : ℕ) → has_float (budget_data name thread tick budget) ≡ false
 unfolding budget_data budget_args on_thread
 budget_plain name thread tick budget = refl
+
+-- ticks that are not shown have none
+pub hidden_plain : (tick : ℕ) (h : Hidden) → has_float (hidden_data tick h) ≡ false
+unfolding hidden_data hidden_args on_thread
+hidden_plain tick h = refl
 
 -- a name has one only if what is told of it has one
 pub about_plain : (what : List ℕ) (thread : ℕ) (args : Data) → has_float args ≡ false → has_float (about_data what thread args) ≡ false

@@ -4,6 +4,8 @@ use Rattle.std.specs.Borrow.{Bor}
 use Rattle.serde_json.specs.Data.{Data, null, number, unsigned, string, object, Members, no_members, put}
 use Rattle.serde_json.specs.Written.{compact_text}
 use Rattle.cbsrun_window.specs.Counts.{told}
+use Rattle.cbsrun_chart.specs.Hidden.{hidden_text}
+use Rattle.cbsrun_chart.specs.declared.hidden.Hidden.{Hidden}
 use Rattle.cbsrun_chart.specs.declared.jobs.ChartJob.{ChartJob}
 use Rattle.cbsrun_perfetto.specs.declared.members.Scalar.{Scalar}
 use Rattle.cbsrun_perfetto.specs.declared.members.Scalar.TheVariants as scalar
@@ -69,6 +71,18 @@ instant_data name cat thread tick args =
     (codes "s", string (codes "t"))
     ∷ (codes "args", args)
     ∷ []) (on_thread (codes "i") name cat thread tick))
+
+-- the arguments of ticks that are not shown: how many are before and after
+unfoldable pub hidden_args : Hidden → Data
+hidden_args h = object_of ((codes "before", whole h.before) ∷ (codes "after", whole h.after) ∷ [])
+
+-- the event of ticks that are not shown. It stands at the first tick that is, and is of the whole process
+unfoldable pub hidden_data : ℕ → Hidden → Data
+hidden_data tick h =
+    object (with_members (
+    (codes "s", string (codes "p"))
+    ∷ (codes "args", hidden_args h)
+    ∷ []) (on_thread (codes "i") (hidden_text h) (codes "hidden") 1 tick))
 
 -- the arguments that give a budget
 unfoldable pub budget_args : ℕ → Data

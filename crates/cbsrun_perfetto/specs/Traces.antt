@@ -4,6 +4,8 @@ use Rattle.std.specs.Prelude.{None, ◌≡◌}
 use Rattle.std.specs.List.{range_with_len}
 use Rattle.cbsrun_chart.specs.declared.chart.ServerChart.{ServerChart}
 use Rattle.cbsrun_chart.specs.declared.course.Corner.{Corner}
+use Rattle.cbsrun_chart.specs.Hidden.{hidden_of}
+use Rattle.cbsrun_chart.specs.declared.hidden.Hidden.{Hidden}
 use Rattle.cbsrun_chart.specs.Jobs.{job_numbered}
 use Rattle.cbsrun_chart.specs.declared.jobs.ChartJob.{ChartJob}
 use Rattle.cbsrun_chart.specs.declared.picture.Drawn.{Drawn}
@@ -12,7 +14,7 @@ use Rattle.cbsrun_window.specs.declared.stretch.Kind.TheVariants as kind
 use Rattle.cbsrun_window.specs.declared.stretch.Stretch.{Stretch}
 use Rattle.cbsrun_window.specs.Windows.{ends_tick, has_tick}
 use Rattle.cbsrun_window.specs.declared.window.Window.{Window}
-use Rattle.cbsrun_perfetto.specs.Events.{LineSeen, budget_data, came_args, finished_args, instant_data, job_args, line_of, no_args, slice_data, about_data}
+use Rattle.cbsrun_perfetto.specs.Events.{LineSeen, budget_data, came_args, finished_args, hidden_data, instant_data, job_args, line_of, no_args, slice_data, about_data}
 use Rattle.cbsrun_perfetto.specs.Events.{named_args, placed_args}
 use Rattle.std.specs.Ordering.{nat_cmp}
 use Rattle.std.specs.List.Sorted.{IsPermutation, IsSortedByKey, IsStableByKey}
@@ -31,11 +33,13 @@ bar_line thread jobs j p =
 unfoldable pub other_line : ℕ → List ℕ → Stretch → LineSeen
 other_line thread what p = line_of p.from (slice_data what what thread p.from p.to no_args)
 
--- the slice of a stretch, if it has one: a bar, charged ticks, or ticks in which the server is throttled with a job
+-- the slice of a stretch, if it has one: a bar, charged ticks, or ticks in which the server has a job, and waits or is
+-- throttled
 abbrev pub slice_of : ℕ → List ChartJob → Kind → Stretch → List LineSeen
 slice_of thread jobs (kind.Runs j) p = bar_line thread jobs j p ∷ []
 slice_of thread jobs kind.Charged p = other_line thread (codes "charged") p ∷ []
 slice_of thread jobs kind.Throttled p = other_line thread (codes "throttled") p ∷ []
+slice_of thread jobs kind.Waits p = other_line thread (codes "waits") p ∷ []
 slice_of thread jobs _ p = []
 
 -- the slices of all stretches
@@ -161,6 +165,11 @@ server_text place d =
 unfoldable pub servers_text : List Drawn → List ℕ
 servers_text servers = numbered server_text 0 servers
 
+-- how many ticks of the run are not shown, if there are any
+abbrev pub hidden_line : ℕ → Option Hidden → List ℕ
+hidden_line tick None = []
+hidden_line tick (Some h) = next_text (compact_text (hidden_data tick h))
+
 -- all events, each on a line of its own
 unfoldable pub lines_text : List LineSeen → List ℕ
 lines_text lines = flat_map (λ line. next_text line.text) lines
@@ -179,7 +188,9 @@ opening_text file = opening ++ process_text file
 
 -- a trace with these events, in this order
 unfoldable pub trace_text : Picture → List LineSeen → List ℕ
-trace_text p ordered = opening_text (string_bytes p.file) ++ servers_text p.servers.items ++ lines_text ordered ++ codes "\n]}\n"
+trace_text p ordered =
+    opening_text (string_bytes p.file) ++ servers_text p.servers.items ++ hidden_line p.window.from (hidden_of p.window p.end)
+    ++ lines_text ordered ++ codes "\n]}\n"
 
 -- the text is the trace of the picture: exactly the events of its servers, in order
 pub record IsTrace (p : Picture) (text : List ℕ) : Type 0 where

@@ -4,12 +4,12 @@ ghost use Rattle.std.specs.Prelude.{◌≡◌, false, IfOk, map, string_bytes};
 ghost use Rattle.serde_json.specs.Data.{no_members};
 ghost use Rattle.serde_json.specs.View.{view};
 ghost use Rattle.serde_json.specs.Written.{compact_text, has_float};
-ghost use Rattle.cbsrun_perfetto.specs.Events.{about_data, came_args, event_data, finished_args, instant_data, job_args, line_of, member_of, named_args, no_args, on_thread, placed_args, slice_data, with_members};
+ghost use Rattle.cbsrun_perfetto.specs.Events.{about_data, came_args, event_data, finished_args, hidden_args, hidden_data, instant_data, job_args, line_of, member_of, named_args, no_args, on_thread, placed_args, slice_data, with_members};
 ghost use Rattle.cbsrun_perfetto.specs.Traces.{budget_line};
 
 use crate::line::Line;
 use crate::members::{Scalar, object_of, put_all};
-use cbsrun_chart::{ChartJob, Stretch};
+use cbsrun_chart::{ChartJob, Hidden, Stretch};
 use serde_json::{Map, Value, put};
 use std::alloc::{AllocError, Global};
 
@@ -162,6 +162,32 @@ pub(crate) fn instant_line(
     let place = on_thread("i", name, cat, thread, tick);
     let text = event_text(alloc, &place, &[("s", Scalar::Text("t"))], args)?;
     Ok(Line::new(tick, text))
+}
+
+/// Returns the arguments of ticks that are not shown: how many are before and after.
+#[tactic(auto, unfolding(crate::specs::Events::hidden_args))]
+fn hidden_args(alloc: Global, hidden: Hidden) -> Result<Value, AllocError>
+    ensures value { IfOk result (λ v. view v ≡ hidden_args hidden) }
+    ensures plain { IfOk result (λ v. has_float (view v) ≡ false) }
+{
+    object_of(
+        alloc,
+        &[
+            ("before", Scalar::Whole(hidden.before)),
+            ("after", Scalar::Whole(hidden.after)),
+        ],
+    )
+}
+
+/// Returns the event of ticks that are not shown, as text. It stands at the first tick that is, `tick`, and is of the
+/// whole process.
+pub(crate) fn hidden_text(alloc: Global, tick: u64, hidden: Hidden) -> Result<String, AllocError>
+    ensures { IfOk result (λ text. string_bytes text ≡ compact_text (hidden_data tick hidden)) }
+{
+    let name = hidden.to_string(alloc)?;
+    let args = hidden_args(alloc, hidden)?;
+    let place = on_thread("i", &name, "hidden", 1, tick);
+    event_text(alloc, &place, &[("s", Scalar::Text("p"))], args)
 }
 
 /// Returns the line of a budget that holds from a tick on.

@@ -47,7 +47,8 @@ fn append_slice(
         Kind::Runs(number) => append_line(lines, bar_line(alloc, thread, jobs, number, span)?),
         Kind::Charged => append_line(lines, other_line(alloc, thread, "charged", span)?),
         Kind::Throttled => append_line(lines, other_line(alloc, thread, "throttled", span)?),
-        Kind::Waits | Kind::Resting | Kind::Refused | Kind::Late | Kind::Idle => Ok(()),
+        Kind::Waits => append_line(lines, other_line(alloc, thread, "waits", span)?),
+        Kind::Resting | Kind::Refused | Kind::Late | Kind::Idle => Ok(()),
     }
 }
 

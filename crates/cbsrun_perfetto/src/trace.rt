@@ -1,12 +1,12 @@
 //! The whole trace.
 
 ghost use Rattle.std.specs.Prelude.{◌≡◌, ◌++◌, IfOk, OnOk, string_bytes};
-ghost use Rattle.cbsrun_perfetto.specs.Traces.{AreInOrder, IsTrace, all_events, lines_text, opening_text, process_text, servers_text, trace_text};
+ghost use Rattle.cbsrun_perfetto.specs.Traces.{AreInOrder, IsTrace, all_events, hidden_line, lines_text, opening_text, process_text, servers_text, trace_text};
 
-use crate::events::{about_text, named_args};
+use crate::events::{about_text, hidden_text, named_args};
 use crate::line::{Line, sort_lines};
 use crate::server::{append_events, append_next, append_server};
-use cbsrun_chart::{Drawn, Picture, Window};
+use cbsrun_chart::{Drawn, Hidden, Picture, Window};
 use std::alloc::{AllocError, Global};
 
 /// The text before the events.
@@ -76,6 +76,23 @@ fn append_opening(alloc: Global, text: &mut String, file: &str) -> Result<(), Al
     text.push_str(&process)
 }
 
+/// Appends how many ticks of the run are not shown, if there are any. The first tick that is shown is `tick`.
+fn append_hidden(
+    alloc: Global,
+    text: &mut String,
+    tick: u64,
+    hidden: Option<Hidden>,
+) -> Result<(), AllocError>
+    ensures { OnOk result (string_bytes text.new ≡ string_bytes text.old
+        ++ hidden_line tick hidden) }
+{
+    let Some(hidden) = hidden else {
+        return Ok(());
+    };
+    let event = hidden_text(alloc, tick, hidden)?;
+    append_next(text, &event)
+}
+
 /// Returns a trace with these events, in this order.
 #[tactic(auto, unfolding(crate::specs::Traces::trace_text))]
 fn trace_text(alloc: Global, picture: &Picture, lines: &[Line]) -> Result<String, AllocError>
@@ -84,6 +101,7 @@ fn trace_text(alloc: Global, picture: &Picture, lines: &[Line]) -> Result<String
     let mut text = String::new(alloc);
     append_opening(alloc, &mut text, &picture.file)?;
     append_servers(alloc, &mut text, &picture.servers)?;
+    append_hidden(alloc, &mut text, picture.window.from, picture.hidden())?;
     append_lines(&mut text, lines)?;
     text.push_str("\n]}\n")?;
     Ok(text)

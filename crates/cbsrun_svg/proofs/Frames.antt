@@ -15,6 +15,14 @@ pub pushed : {T E : Type 0} (r : Result T E) (new old more whole : List ℕ) →
 pushed (Ok x) new old more whole is same = is ∙ same
 pushed (Err e) new old more whole is same = tt
 
+-- a text after two others, of which the second is known by another name
+pub three_pieces : {T E : Type 0} (r : Result T E) (old first second new a word b c : List ℕ) → first ≡ old ++ a → second ≡ first ++ word → word ≡ b
+    → OnOk r (new ≡ second ++ c) → OnOk r (new ≡ old ++ (a ++ (b ++ c)))
+three_pieces (Ok x) old first second new a word b c is_first is_second is is_new =
+    is_new ∙ (ap (λ t. t ++ c) (is_second ∙ (ap (λ t. first ++ t) is ∙ ap (λ t. t ++ b) is_first))
+    ∙ (append_assoc (old ++ a) b c ∙ append_assoc old a (b ++ c)))
+three_pieces (Err e) old first second new a word b c is_first is_second is is_new = tt
+
 -- room for one server more
 left_push : (n : ℕ) (ds : List Drawn) (d : Drawn) → left_of n (ds ++ d ∷ []) ≡ max (words_width n d) (left_of n ds)
 left_push n [] d = refl

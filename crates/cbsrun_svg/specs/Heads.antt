@@ -8,13 +8,15 @@ use Rattle.cbsrun_window.specs.declared.window.Window.{Window}
 use Rattle.cbsrun_svg_shapes.specs.Axes.{AxisSeen, right_of, x_at}
 use Rattle.cbsrun_svg_shapes.specs.Shapes.{label_text, upright_text}
 use Rattle.cbsrun_text.specs.Numbers.{digits_of, mode_word}
+use Rattle.cbsrun_chart.specs.Hidden.{hidden_of, hidden_text}
+use Rattle.cbsrun_chart.specs.declared.hidden.Hidden.{Hidden}
 use Rattle.cbsrun_chart.specs.declared.jobs.ChartJob.{ChartJob}
 use Rattle.cbsrun_chart.specs.declared.picture.Drawn.{Drawn}
 use Rattle.cbsrun_chart.specs.declared.picture.Picture.{Picture}
 use Rattle.cbsrun_window.specs.Windows.{ends_tick}
 use Rattle.cbs_rate.specs.declared.bandwidth.Bandwidth.{Bandwidth}
 use Rattle.cbsrun_figures.specs.Figures.{exceeds}
-use Rattle.cbsrun_svg.specs.Rows.{terms_text, units_of}
+use Rattle.cbsrun_svg.specs.Rows.{charged_of, terms_text, units_of}
 
 -- numbers with this many digits have room if one stands every `step` ticks
 abbrev pub has_room : AxisSeen → ℕ → ℕ → Bool
@@ -93,21 +95,25 @@ tenths_of b = (2000 * b.ticks + b.of) / max 1 (2 * b.of)
 abbrev pub all_units : Window → List Drawn → ℕ
 all_units w servers = told (sum_by (λ d. units_of w d.chart) servers)
 
--- how many servers there are, what share of the time is reserved, and how many units ran, and how many ticks were idle
-unfoldable pub figures_text : ℕ → Bandwidth → ℕ → ℕ → List ℕ
-figures_text servers b units idle =
+-- how many ticks all servers were charged in the window
+abbrev pub all_charged : Window → List Drawn → ℕ
+all_charged w servers = told (sum_by (λ d. charged_of w d.chart) servers)
+
+-- how many ticks were charged, if there are any
+unfoldable pub charges_text : ℕ → List ℕ
+charges_text charged = if eqb charged 0 then [] else decimal charged ++ codes " ticks charged, "
+
+-- how many servers there are, what share of the time is reserved, how many units ran, and how many ticks were charged
+-- and idle
+unfoldable pub figures_text : ℕ → Bandwidth → ℕ → ℕ → ℕ → List ℕ
+figures_text servers b units charged idle =
     servers_text servers ++ codes " with " ++ decimal (tenths_of b / 10) ++ codes "." ++ decimal (tenths_of b % 10) ++ codes " % of the time reserved. "
-    ++ decimal units ++ codes " units run, " ++ decimal idle ++ codes " ticks idle."
+    ++ decimal units ++ codes " units run, " ++ charges_text charged ++ decimal idle ++ codes " ticks idle."
 
--- the window shows a whole run, which ends at this tick
-abbrev pub is_whole : Window → ℕ → Bool
-is_whole w end = eqb w.from 0 && leb end w.to
-
--- how many ticks of the run are before the window and after it, unless the window shows the whole run
-unfoldable pub hidden_text : Window → ℕ → List ℕ
-hidden_text w end =
-    if is_whole w end then []
-    else codes " Not shown: " ++ decimal w.from ++ codes " ticks before, " ++ decimal (end - w.to) ++ codes " after."
+-- how many ticks of the run are not shown, if there are any
+abbrev pub hidden_part : Option Hidden → List ℕ
+hidden_part None = []
+hidden_part (Some h) = codes " " ++ hidden_text h
 
 -- how many ticks a column has, if it has more than one
 unfoldable pub column_text : ℕ → List ℕ
@@ -116,8 +122,9 @@ column_text cell = if ltb 1 cell then codes " Each column is " ++ decimal cell +
 -- the line below the heading
 unfoldable pub summary_text : Picture → ℕ → List ℕ
 summary_text p cell =
-    figures_text (length p.servers.items) p.reserved (all_units p.window p.servers.items) (counts_of p.window.from p.window.to p.idle.items).idle
-    ++ hidden_text p.window p.end ++ column_text cell
+    figures_text (length p.servers.items) p.reserved (all_units p.window p.servers.items) (all_charged p.window p.servers.items)
+    (counts_of p.window.from p.window.to p.idle.items).idle
+    ++ hidden_part (hidden_of p.window p.end) ++ column_text cell
 
 -- the job was finished late in the window
 abbrev pub is_late_at : Window → ChartJob → Option ℕ → Bool
@@ -127,19 +134,24 @@ is_late_at w job (Some finish) = ends_tick w finish && exceeds (finish - job.cam
 abbrev pub is_late : Window → ChartJob → Bool
 is_late w job = is_late_at w job job.finish
 
--- a server's name, mode and reservation, and how many of its units ran
-unfoldable pub who_text : List ℕ → List ℕ → List ℕ → ℕ → List ℕ
-who_text name mode terms units = name ++ codes ", " ++ mode ++ codes ", " ++ terms ++ codes ": ran " ++ decimal units ++ codes " units; "
+-- how many ticks a server was charged, if there are any
+unfoldable pub was_charged_text : ℕ → List ℕ
+was_charged_text charged = if eqb charged 0 then [] else codes ", was charged " ++ decimal charged ++ codes " ticks"
+
+-- a server's name, mode and reservation, how many of its units ran, and how many ticks it was charged
+unfoldable pub who_text : List ℕ → List ℕ → List ℕ → ℕ → ℕ → List ℕ
+who_text name mode terms units charged =
+    name ++ codes ", " ++ mode ++ codes ", " ++ terms ++ codes ": ran " ++ decimal units ++ codes " units" ++ was_charged_text charged
 
 -- how many of its jobs came, were refused, were finished, and were late
 unfoldable pub came_text : ℕ → ℕ → ℕ → ℕ → List ℕ
 came_text came refused finished late =
-    decimal came ++ codes " jobs came, " ++ decimal refused ++ codes " refused, " ++ decimal finished ++ codes " finished, " ++ decimal late
+    codes "; " ++ decimal came ++ codes " jobs came, " ++ decimal refused ++ codes " refused, " ++ decimal finished ++ codes " finished, " ++ decimal late
     ++ codes " of those late.\n"
 
 -- the sentence that says what a picture shows of a server
 unfoldable pub sentence_text : Window → List ℕ → Drawn → List ℕ
 sentence_text w name d =
-    who_text name (mode_word d.mode) (terms_text d.reservation) (units_of w d.chart)
+    who_text name (mode_word d.mode) (terms_text d.reservation) (units_of w d.chart) (charged_of w d.chart)
     ++ came_text (told (length d.chart.arrivals.items + d.chart.refusals)) d.chart.refusals (length d.chart.completions.items)
     (count_by (is_late w) d.chart.jobs.items)

@@ -1,19 +1,19 @@
 -- The whole picture.
-use Rattle.std.specs.Prelude.{ℕ, ◌+◌, ◌-◌, ◌*◌, ◌/◌, ltb, max, min, if◌then◌else◌, List, [], ◌∷◌, ◌++◌, codes, decimal, flat_map, length, string_bytes}
+use Rattle.std.specs.Prelude.{ℕ, ◌+◌, ◌-◌, ◌*◌, ◌/◌, eqb, ltb, max, min, if◌then◌else◌, List, [], ◌∷◌, ◌++◌, codes, decimal, flat_map, length, string_bytes}
 use Rattle.cbsrun_window.specs.Counts.{counts_of}
 use Rattle.cbsrun_chart.specs.declared.picture.Drawn.{Drawn}
 use Rattle.cbsrun_chart.specs.declared.picture.Picture.{Picture}
 use Rattle.cbsrun_window.specs.declared.stretch.Stretch.{Stretch}
 use Rattle.cbsrun_window.specs.declared.window.Window.{Window}
-use Rattle.cbsrun_svg_shapes.specs.Axes.{AxisSeen, axis_of, right_of}
+use Rattle.cbsrun_svg_shapes.specs.Axes.{AxisSeen, axis_of, is_wide, right_of}
 use Rattle.cbsrun_svg_shapes.specs.Columns.{cell_counts}
 use Rattle.cbsrun_svg_shapes.specs.Shapes.{escaped, label_text, path_text, stretch_text}
-use Rattle.cbsrun_svg.specs.Heads.{heading_text, sentence_text, summary_text, numbers_text, scale_text, ticks_numbered, uprights_text}
+use Rattle.cbsrun_svg.specs.Heads.{all_charged, heading_text, sentence_text, summary_text, numbers_text, scale_text, ticks_numbered, uprights_text}
 use Rattle.cbsrun_svg_shapes.specs.Layouts.{layout_of}
 use Rattle.cbsrun_svg_shapes.specs.declared.layout.Layout.{Layout}
 use Rattle.cbsrun_svg.specs.Rows.{layer_text, row_text, short_terms_text, terms_text}
 use Rattle.cbsrun_svg_shapes.specs.declared.columns.Layer.TheVariants.{Idle}
-use Rattle.cbsrun_svg.specs.declared.style.TheConstants.{STYLE, LEGEND, BUDGET_LEGEND, COLUMN_LEGEND}
+use Rattle.cbsrun_svg.specs.declared.style.TheConstants.{STYLE, LEGEND, CHARGED_LEGEND, CHARGED_FILL_LEGEND, BUDGET_LEGEND, COLUMN_LEGEND}
 
 -- the width of a server's words; of each word at most 40 letters count
 abbrev pub words_width : ℕ → Drawn → ℕ
@@ -72,25 +72,34 @@ words_text left scale w heading summary servers =
 unfoldable pub budget_legend : Layout → List ℕ
 budget_legend l = if l.budgets then BUDGET_LEGEND.now else []
 
+-- the legend of charged ticks, as they are drawn
+abbrev pub charged_legend : AxisSeen → List ℕ
+charged_legend a = if is_wide a then CHARGED_LEGEND.now else CHARGED_FILL_LEGEND.now
+
 -- the legend of the shapes that are drawn tick by tick
-unfoldable pub fine_legend : Layout → List ℕ
-fine_legend l = LEGEND.now ++ budget_legend l
+unfoldable pub fine_legend : AxisSeen → Layout → List ℕ
+fine_legend a l = LEGEND.now ++ charged_legend a ++ budget_legend l
 
 -- the legend of the shapes, drawn in columns or tick by tick
-abbrev pub legend_text : Layout → List ℕ
-legend_text l = if l.dense then COLUMN_LEGEND.now else fine_legend l
+abbrev pub legend_text : AxisSeen → Layout → List ℕ
+legend_text a l = if l.dense then COLUMN_LEGEND.now else fine_legend a l
 
 -- the heading, the summary and the legend
-unfoldable pub top_text : Layout → List ℕ → List ℕ → List ℕ
-top_text l heading summary =
-    label_text (codes "h") 1600 3000 heading ++ label_text (codes "m") 1600 5000 summary ++ legend_text l
+unfoldable pub top_text : AxisSeen → Layout → List ℕ → List ℕ → List ℕ
+top_text a l heading summary =
+    label_text (codes "h") 1600 3000 heading ++ label_text (codes "m") 1600 5000 summary ++ legend_text a l
+
+-- the heading of the units, and of charged ticks if there are any. That one is longer, and stands above the numbers
+unfoldable pub units_heading : AxisSeen → ℕ → List ℕ
+units_heading a charged =
+    if eqb charged 0 then label_text (codes "m r") (right_of a + 5700) 10200 (codes "units")
+    else label_text (codes "m r") (right_of a + 5700) 9000 (codes "units + charged")
 
 -- faint lines through all rows at the numbered ticks, and the heading of the units. If there are many rows, the numbers
 -- stand once more above them
-unfoldable pub grid_text : AxisSeen → Layout → ℕ → List ℕ → List ℕ
-grid_text a l scale ts =
-    path_text (codes "grid") (uprights_text a 10500 scale ts) ++ label_text (codes "m r") (right_of a + 5700) 10200 (codes "units")
-    ++ (if l.compact then numbers_text a 10200 ts else [])
+unfoldable pub grid_text : AxisSeen → Layout → ℕ → List ℕ → ℕ → List ℕ
+grid_text a l scale ts charged =
+    path_text (codes "grid") (uprights_text a 10500 scale ts) ++ units_heading a charged ++ (if l.compact then numbers_text a 10200 ts else [])
 
 -- the row of a server
 abbrev pub server_row : AxisSeen → Layout → Window → ℕ → Drawn → List ℕ
@@ -118,12 +127,12 @@ idle_text a l w scale ps =
 -- all rows, with the grid, idle line and scale around them
 unfoldable pub body_text : AxisSeen → Layout → Window → ℕ → List ℕ → Picture → List ℕ
 body_text a l w scale ts p =
-    grid_text a l scale ts ++ rows_text a l w 11000 p.servers.items ++ idle_text a l w scale p.idle.items ++ scale_text a scale ts ++ codes "</svg>\n"
+    grid_text a l scale ts (all_charged w p.servers.items) ++ rows_text a l w 11000 p.servers.items ++ idle_text a l w scale p.idle.items ++ scale_text a scale ts ++ codes "</svg>\n"
 
 -- the text of a picture on an axis
 unfoldable pub drawn_text : AxisSeen → Layout → List ℕ → List ℕ → Picture → List ℕ
 drawn_text a l heading summary p =
-    words_text a.left (scale_of (length p.servers.items) l) p.window heading summary p.servers.items ++ top_text l heading summary
+    words_text a.left (scale_of (length p.servers.items) l) p.window heading summary p.servers.items ++ top_text a l heading summary
     ++ body_text a l p.window (scale_of (length p.servers.items) l) (ticks_numbered a p.window) p
 
 -- the text of a picture

@@ -22,6 +22,10 @@ use Rattle.cbsrun_text.specs.Numbers.{mode_word}
 abbrev pub units_of : Window → ServerChart → ℕ
 units_of w c = (counts_of w.from w.to c.spans.items).runs
 
+-- how many ticks a server was charged in a window
+abbrev pub charged_of : Window → ServerChart → ℕ
+charged_of w c = (counts_of w.from w.to c.spans.items).charged
+
 -- how far down the texts beside a bar stand
 abbrev pub text_line : Layout → ℕ
 text_line l = if l.compact then l.bar + l.height - 30 else l.bar + l.height - 400
@@ -40,9 +44,13 @@ names_text a l name r mode =
     then label_text (codes "k") 1600 (text_line l) name ++ label_text (codes "m r") (a.left - 1200) (text_line l) (short_terms_text r mode)
     else label_text (codes "n") 1600 2100 name ++ label_text (codes "m") 1600 3600 (terms_text r) ++ label_text (codes "m") 1600 5000 (mode_word mode)
 
--- how many units ran
-unfoldable pub units_text : AxisSeen → Layout → ℕ → List ℕ
-units_text a l units = label_text (codes "u") (right_of a + 5700) (text_line l) (decimal units)
+-- how many units ran, and below that how many ticks were charged, if there are any
+unfoldable pub units_text : AxisSeen → Layout → ℕ → ℕ → List ℕ
+units_text a l units charged =
+    if eqb charged 0 then label_text (codes "u") (right_of a + 5700) (text_line l) (decimal units)
+    else
+    label_text (codes "u") (right_of a + 5700) (text_line l - 600) (decimal units)
+    ++ label_text (codes "m r") (right_of a + 5700) (text_line l + 500) (codes "+ " ++ decimal charged)
 
 -- the line of a row
 unfoldable pub line_text : AxisSeen → Layout → List ℕ
@@ -79,7 +87,7 @@ layer_text a base whole layer class cs = path_text class (layer_shape a base who
 -- the columns of charged ticks, if there are any
 unfoldable pub charged_text : AxisSeen → Layout → Window → ServerChart → List Counts → List ℕ
 charged_text a l w c cs =
-    if eqb (counts_of w.from w.to c.spans.items).charged 0 then [] else layer_text a (l.bar + l.height) l.height layer.Charged (codes "fee") cs
+    if eqb (charged_of w c) 0 then [] else layer_text a (l.bar + l.height) l.height layer.Charged (codes "fee") cs
 
 -- the title of a server's units: its name, how many units ran, and in which ticks
 unfoldable pub units_title : List ℕ → ℕ → Window → List ℕ
@@ -110,5 +118,5 @@ inside_text a l w name mode d = if l.dense then dense_text a l w name mode d.cha
 -- the row of a server, whose top edge is at `top`
 unfoldable pub row_text : AxisSeen → Layout → Window → ℕ → List ℕ → Mode → Drawn → List ℕ
 row_text a l w top name mode d =
-    codes "<g transform=\"translate(0 " ++ decimal top ++ codes ")\">\n" ++ names_text a l name d.reservation mode ++ units_text a l (units_of w d.chart)
+    codes "<g transform=\"translate(0 " ++ decimal top ++ codes ")\">\n" ++ names_text a l name d.reservation mode ++ units_text a l (units_of w d.chart) (charged_of w d.chart)
     ++ inside_text a l w name mode d ++ codes "</g>\n"

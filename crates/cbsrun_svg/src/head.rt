@@ -1,11 +1,11 @@
 //! The words of a picture that stand around its rows.
 
 ghost use Rattle.std.specs.Prelude.{◌≡◌, ◌+◌, ◌≤◌, ◌++◌, IfOk, OnOk, count_by, string_bytes};
-ghost use Rattle.cbsrun_svg.specs.Heads.{all_units, came_text, column_text, figures_text, heading_text, hidden_text, is_late, is_whole, sentence_text, servers_text, summary_text, tenths_of, who_text};
+ghost use Rattle.cbsrun_svg.specs.Heads.{all_charged, all_units, came_text, charges_text, column_text, figures_text, heading_text, hidden_part, is_late, sentence_text, servers_text, summary_text, tenths_of, was_charged_text, who_text};
 
-use crate::row::{terms_text, units_of};
+use crate::row::{charged_of, terms_text, units_of};
 use cbs_rate::Bandwidth;
-use cbsrun_chart::{ChartJob, Counts, Drawn, Picture, Window};
+use cbsrun_chart::{ChartJob, Counts, Drawn, Hidden, Picture, Window};
 use cbsrun_figures::exceeds;
 use cbsrun_text::mode_word;
 use std::alloc::{AllocError, Global};
@@ -51,18 +51,41 @@ fn all_units(window: Window, servers: &[Drawn]) -> u64
     units
 }
 
+/// Returns how many ticks all servers were charged in a window.
+pub(crate) fn all_charged(window: Window, servers: &[Drawn]) -> u64
+    ensures { result ≡ all_charged window servers.now }
+{
+    let mut charged = 0u64;
+    for server in servers {
+        charged = charged.saturating_add(charged_of(window, &server.chart));
+    }
+    charged
+}
+
+/// Appends how many ticks were charged, if there are any.
+#[tactic(auto, unfolding(crate::specs::Heads::charges_text))]
+fn append_charges(text: &mut String, charged: u64) -> Result<(), AllocError>
+    ensures { OnOk result (string_bytes text.new ≡ string_bytes text.old ++ charges_text charged) }
+{
+    if charged == 0 {
+        return Ok(());
+    }
+    write!(text, "{charged} ticks charged, ")
+}
+
 /// Appends how many servers there are, what share of the time is reserved, how many units ran, and how many ticks were
-/// idle.
+/// charged and idle.
 #[tactic(auto, unfolding(crate::specs::Heads::figures_text))]
 fn append_figures(
     text: &mut String,
     servers: usize,
     reserved: Bandwidth,
     units: u64,
+    charged: u64,
     idle: u64,
 ) -> Result<(), AllocError>
     ensures { OnOk result (string_bytes text.new ≡ string_bytes text.old
-        ++ figures_text servers reserved units idle) }
+        ++ figures_text servers reserved units charged idle) }
 {
     append_servers(text, servers)?;
     let tenths = tenths_of(reserved);
@@ -70,29 +93,20 @@ fn append_figures(
     let tenth = tenths % 10;
     write!(
         text,
-        " with {whole}.{tenth} % of the time reserved. {units} units run, {idle} ticks idle."
-    )
+        " with {whole}.{tenth} % of the time reserved. {units} units run, "
+    )?;
+    append_charges(text, charged)?;
+    write!(text, "{idle} ticks idle.")
 }
 
-/// Returns whether a window shows a whole run, which ends at the tick `end`.
-fn is_whole(window: Window, end: u64) -> bool
-    ensures { result ≡ is_whole window end }
+/// Appends how many ticks of the run are not shown, if there are any.
+fn append_hidden(text: &mut String, hidden: Option<Hidden>) -> Result<(), AllocError>
+    ensures { OnOk result (string_bytes text.new ≡ string_bytes text.old ++ hidden_part hidden) }
 {
-    window.from == 0 && end <= window.to
-}
-
-/// Appends how many ticks of the run are before the window and after it, unless the window shows the whole run.
-#[tactic(auto, unfolding(crate::specs::Heads::hidden_text))]
-fn append_hidden(text: &mut String, window: Window, end: u64) -> Result<(), AllocError>
-    ensures { OnOk result (string_bytes text.new ≡ string_bytes text.old
-        ++ hidden_text window end) }
-{
-    if is_whole(window, end) {
-        return Ok(());
+    match hidden {
+        Some(hidden) => write!(text, " {hidden}"),
+        None => Ok(()),
     }
-    let before = window.from;
-    let after = end.saturating_sub(window.to);
-    write!(text, " Not shown: {before} ticks before, {after} after.")
 }
 
 /// Appends how many ticks a column has, if it has more than one.
@@ -117,6 +131,7 @@ pub(crate) fn summary_text(
 {
     let window = picture.window;
     let units = all_units(window, &picture.servers);
+    let charged = all_charged(window, &picture.servers);
     let idle = Counts::of(&picture.idle, window.from, window.to).idle;
     let mut text = String::new(alloc);
     append_figures(
@@ -124,9 +139,10 @@ pub(crate) fn summary_text(
         picture.servers.len(),
         picture.reserved,
         units,
+        charged,
         idle,
     )?;
-    append_hidden(&mut text, window, picture.end)?;
+    append_hidden(&mut text, picture.hidden())?;
     append_column(&mut text, cell)?;
     Ok(text)
 }
@@ -150,7 +166,19 @@ fn late_jobs(window: Window, jobs: &[ChartJob]) -> usize
     jobs.iter().filter(|job| is_late(window, job)).count()
 }
 
-/// Appends a server's name, mode and reservation, and how many of its units ran.
+/// Appends how many ticks a server was charged, if there are any.
+#[tactic(auto, unfolding(crate::specs::Heads::was_charged_text))]
+fn append_was_charged(text: &mut String, charged: u64) -> Result<(), AllocError>
+    ensures { OnOk result (string_bytes text.new ≡ string_bytes text.old
+        ++ was_charged_text charged) }
+{
+    if charged == 0 {
+        return Ok(());
+    }
+    write!(text, ", was charged {charged} ticks")
+}
+
+/// Appends a server's name, mode and reservation, how many of its units ran, and how many ticks it was charged.
 #[tactic(auto, unfolding(crate::specs::Heads::who_text))]
 fn append_who(
     text: &mut String,
@@ -158,11 +186,13 @@ fn append_who(
     mode: &str,
     terms: &str,
     units: u64,
+    charged: u64,
 ) -> Result<(), AllocError>
     ensures { OnOk result (string_bytes text.new ≡ string_bytes text.old
-        ++ who_text name.now mode.now terms.now units) }
+        ++ who_text name.now mode.now terms.now units charged) }
 {
-    write!(text, "{name}, {mode}, {terms}: ran {units} units; ")
+    write!(text, "{name}, {mode}, {terms}: ran {units} units")?;
+    append_was_charged(text, charged)
 }
 
 /// Appends how many of a server's jobs came, were refused, were finished, and were late.
@@ -179,7 +209,7 @@ fn append_came(
 {
     writeln!(
         text,
-        "{came} jobs came, {refused} refused, {finished} finished, {late} of those late."
+        "; {came} jobs came, {refused} refused, {finished} finished, {late} of those late."
     )
 }
 
@@ -203,6 +233,7 @@ pub(crate) fn append_sentence(
         mode_word(drawn.mode),
         &terms,
         units_of(window, chart),
+        charged_of(window, chart),
     )?;
     let came = (chart.arrivals.len() as u64).saturating_add(chart.refusals);
     let late = late_jobs(window, &chart.jobs);

@@ -2,13 +2,15 @@
 
 ghost use Rattle.std.specs.Prelude.{◌≡◌, ◌≤◌, ◌++◌, IfOk, OnOk, length, string_bytes};
 ghost use Rattle.cbsrun_svg.specs.Heads.{heading_text, summary_text};
-ghost use Rattle.cbsrun_svg.specs.Pictures.{body_text, budget_legend, description_text, drawn_text, fine_legend, grid_text, idle_boxes, idle_shape, idle_text, left_of, legend_text, opening_text, page_text, rows_text, scale_of, sentences_text, server_row, server_sentence, svg_text, title_text, top_text, words_text, words_width};
+ghost use Rattle.cbsrun_svg.specs.Pictures.{body_text, budget_legend, charged_legend, description_text, drawn_text, fine_legend, grid_text, idle_boxes, idle_shape, idle_text, left_of, legend_text, opening_text, page_text, rows_text, scale_of, sentences_text, server_row, server_sentence, svg_text, title_text, top_text, units_heading, words_text, words_width};
 ghost use Rattle.cbsrun_svg_shapes.specs.Shapes.{escaped};
 
-use crate::head::{append_sentence, heading_text, summary_text};
+use crate::head::{all_charged, append_sentence, heading_text, summary_text};
 use crate::row::{append_layer, append_row, short_terms_text, terms_text};
 use crate::scale::{append_numbers, append_scale, append_uprights, ticks_of};
-use crate::style::{BUDGET_LEGEND, COLUMN_LEGEND, LEGEND, STYLE};
+use crate::style::{
+    BUDGET_LEGEND, CHARGED_FILL_LEGEND, CHARGED_LEGEND, COLUMN_LEGEND, LEGEND, STYLE,
+};
 use cbsrun_chart::{Counts, Drawn, Picture, Stretch, Window};
 use cbsrun_svg_shapes::{
     Axis, Layer, Layout, Place, append_label, append_path, append_stretch, cell_counts, escaped,
@@ -168,41 +170,68 @@ fn append_budget_legend(text: &mut String, layout: &Layout) -> Result<(), AllocE
     text.push_str(BUDGET_LEGEND)
 }
 
+/// Returns the legend of charged ticks, as they are drawn.
+fn charged_legend(axis: &Axis) -> &'static str
+    ensures { result.now ≡ charged_legend axis.now }
+{
+    if axis.is_wide() {
+        CHARGED_LEGEND
+    } else {
+        CHARGED_FILL_LEGEND
+    }
+}
+
 /// Appends the legend of the shapes that are drawn tick by tick.
 #[tactic(auto, unfolding(crate::specs::Pictures::fine_legend))]
-fn append_fine_legend(text: &mut String, layout: &Layout) -> Result<(), AllocError>
+fn append_fine_legend(text: &mut String, axis: &Axis, layout: &Layout) -> Result<(), AllocError>
     ensures { OnOk result (string_bytes text.new ≡ string_bytes text.old
-        ++ fine_legend layout.now) }
+        ++ fine_legend axis.now layout.now) }
 {
     text.push_str(LEGEND)?;
+    text.push_str(charged_legend(axis))?;
     append_budget_legend(text, layout)
 }
 
 /// Appends the legend of the shapes.
-fn append_legend(text: &mut String, layout: &Layout) -> Result<(), AllocError>
+fn append_legend(text: &mut String, axis: &Axis, layout: &Layout) -> Result<(), AllocError>
     ensures { OnOk result (string_bytes text.new ≡ string_bytes text.old
-        ++ legend_text layout.now) }
+        ++ legend_text axis.now layout.now) }
 {
     if layout.dense {
         return text.push_str(COLUMN_LEGEND);
     }
-    append_fine_legend(text, layout)
+    append_fine_legend(text, axis, layout)
 }
 
 /// Appends the heading, the summary and the legend.
 #[tactic(auto, unfolding(crate::specs::Pictures::top_text))]
 fn append_top(
     text: &mut String,
+    axis: &Axis,
     layout: &Layout,
     heading: &str,
     summary: &str,
 ) -> Result<(), AllocError>
     ensures { OnOk result (string_bytes text.new ≡ string_bytes text.old
-        ++ top_text layout.now heading.now summary.now) }
+        ++ top_text axis.now layout.now heading.now summary.now) }
 {
     append_label(text, "h", 1600, 3000, heading)?;
     append_label(text, "m", 1600, 5000, summary)?;
-    append_legend(text, layout)
+    append_legend(text, axis, layout)
+}
+
+/// Appends the heading of the units, and of charged ticks if there are any. That one is longer, and stands above the
+/// numbers.
+#[tactic(auto, unfolding(crate::specs::Pictures::units_heading))]
+fn append_units_heading(text: &mut String, axis: &Axis, charged: u64) -> Result<(), AllocError>
+    ensures { OnOk result (string_bytes text.new ≡ string_bytes text.old
+        ++ units_heading axis.now charged) }
+{
+    let x = axis.right() + 5700;
+    if charged == 0 {
+        return append_label(text, "m r", x, 10_200, "units");
+    }
+    append_label(text, "m r", x, 9000, "units + charged")
 }
 
 /// Appends faint lines through all rows at the numbered ticks, and the heading of the units. If there are many rows,
@@ -215,14 +244,15 @@ fn append_grid(
     layout: &Layout,
     scale: u64,
     ticks: &[u64],
+    charged: u64,
 ) -> Result<(), AllocError>
     ensures { OnOk result (string_bytes text.new ≡ string_bytes text.old
-        ++ grid_text axis.now layout.now scale ticks.now) }
+        ++ grid_text axis.now layout.now scale ticks.now charged) }
 {
     let mut shape = String::new(alloc);
     append_uprights(&mut shape, axis, 10_500, scale, ticks)?;
     append_path(text, "grid", &shape)?;
-    append_label(text, "m r", axis.right() + 5700, 10_200, "units")?;
+    append_units_heading(text, axis, charged)?;
     if layout.compact {
         append_numbers(alloc, text, axis, 10_200, ticks)?;
     }
@@ -360,7 +390,8 @@ fn append_body(
         ++ body_text axis.now layout.now picture.now.window scale ticks.now picture.now) }
 {
     let window = picture.window;
-    append_grid(alloc, text, axis, layout, scale, ticks)?;
+    let charged = all_charged(window, &picture.servers);
+    append_grid(alloc, text, axis, layout, scale, ticks, charged)?;
     append_rows(alloc, text, axis, layout, window, &picture.servers)?;
     append_idle(alloc, text, axis, layout, window, scale, &picture.idle)?;
     append_scale(alloc, text, axis, scale, ticks)?;
@@ -403,7 +434,7 @@ fn drawn_text(
         summary,
         &picture.servers,
     )?;
-    append_top(&mut text, layout, heading, summary)?;
+    append_top(&mut text, axis, layout, heading, summary)?;
     append_body(alloc, &mut text, axis, layout, scale, &ticks, picture)?;
     Ok(text)
 }

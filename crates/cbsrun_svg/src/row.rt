@@ -1,7 +1,7 @@
 //! The row of a server.
 
 ghost use Rattle.std.specs.Prelude.{◌≡◌, ◌≤◌, ◌++◌, IfOk, OnOk, string_bytes};
-ghost use Rattle.cbsrun_svg.specs.Rows.{band_text, bars_text, charged_text, dense_text, fine_text, inside_text, lates_text, layer_shape, layer_text, line_text, marks_text, names_text, row_text, short_terms_text, spans_text, terms_text, text_line, units_of, units_text, units_title};
+ghost use Rattle.cbsrun_svg.specs.Rows.{band_text, bars_text, charged_of, charged_text, dense_text, fine_text, inside_text, lates_text, layer_shape, layer_text, line_text, marks_text, names_text, row_text, short_terms_text, spans_text, terms_text, text_line, units_of, units_text, units_title};
 
 use cbs_rate::Reservation;
 use cbs_rules::Mode;
@@ -22,9 +22,17 @@ pub(crate) fn units_of(window: Window, chart: &ServerChart) -> u64
     Counts::of(&chart.spans, window.from, window.to).runs
 }
 
+/// Returns how many ticks a server was charged in a window.
+pub(crate) fn charged_of(window: Window, chart: &ServerChart) -> u64
+    ensures { result ≡ charged_of window chart.now }
+{
+    Counts::of(&chart.spans, window.from, window.to).charged
+}
+
 /// Returns how far down the texts beside a bar stand.
 fn text_line(layout: &Layout) -> u64
-    ensures { result ≡ text_line layout.now }
+    ensures value { result ≡ text_line layout.now }
+    ensures small { result ≤ 20000 }
 {
     let bottom = layout.bar + layout.height;
     if layout.compact {
@@ -88,7 +96,7 @@ fn append_names(
     append_label(text, "m", 1600, 5000, mode_word(place.mode))
 }
 
-/// Appends how many units ran.
+/// Appends how many units ran, and below that how many ticks were charged, if there are any.
 #[tactic(auto, unfolding(crate::specs::Rows::units_text))]
 pub(crate) fn append_units(
     alloc: Global,
@@ -96,12 +104,20 @@ pub(crate) fn append_units(
     axis: &Axis,
     layout: &Layout,
     units: u64,
+    charged: u64,
 ) -> Result<(), AllocError>
     ensures { OnOk result (string_bytes text.new ≡ string_bytes text.old
-        ++ units_text axis.now layout.now units) }
+        ++ units_text axis.now layout.now units charged) }
 {
+    let x = axis.right() + 5700;
+    let y = text_line(layout);
     let label = units.to_string(alloc)?;
-    append_label(text, "u", axis.right() + 5700, text_line(layout), &label)
+    if charged == 0 {
+        return append_label(text, "u", x, y, &label);
+    }
+    append_label(text, "u", x, y.saturating_sub(600), &label)?;
+    let below = format!(in alloc; "+ {charged}")?;
+    append_label(text, "m r", x, y + 500, &below)
 }
 
 /// Appends the line of a row.
@@ -256,7 +272,7 @@ fn append_charged(
     ensures { OnOk result (string_bytes text.new ≡ string_bytes text.old
         ++ charged_text place.now.axis place.now.layout window chart.now counts.now) }
 {
-    if Counts::of(&chart.spans, window.from, window.to).charged == 0 {
+    if charged_of(window, chart) == 0 {
         return Ok(());
     }
     let height = place.layout.height;
@@ -427,6 +443,7 @@ pub(crate) fn append_row(
         &place.axis,
         &place.layout,
         units_of(window, &drawn.chart),
+        charged_of(window, &drawn.chart),
     )?;
     append_inside(alloc, text, place, window, drawn)?;
     text.push_str("</g>\n")

@@ -22,8 +22,9 @@ text{fill:#1b1f24;font-family:system-ui,"Segoe UI","Helvetica Neue",Arial,sans-s
 .s0+.j,.t0+.j{fill:#fff}
 .charged{fill:#fff;stroke:#1b1f24;stroke-width:120;stroke-dasharray:240 160}
 .mark{stroke:#1b1f24;fill:none}
+.edge{stroke:none;fill:none}
 .late{fill:#d55e00}
-.fee{fill:#59626d}
+.fee{fill:#8b95a1}
 .band{fill:#d55e00;stroke:#d55e00;stroke-width:50}
 .no{stroke:#d55e00;fill:none}
 .budget{fill:#e69f00;fill-opacity:.28;stroke:#a06c00;stroke-width:70}
@@ -33,13 +34,14 @@ text{fill:#1b1f24;font-family:system-ui,"Segoe UI","Helvetica Neue",Arial,sans-s
 text{fill:#e8ebee}.m{fill:#a3adb8}
 .grid,.axis,.line,.mark,.hatchline,.charged{stroke:#e8ebee}
 .charged{fill:#14181d}
+.edge{stroke:#14181d}
 .grid{stroke-opacity:.16}
 .wait{fill:#e8ebee;fill-opacity:.15}
 .s0{fill:#2f8fd0}.s1{fill:#9ad4f5}
 .t0{fill:#1fa77f}.t1{fill:#8fdcc3}
 .s0+.j,.t0+.j{fill:#000}
 .late{fill:#ff7f2a}.no{stroke:#ff7f2a}
-.fee{fill:#a3adb8}
+.fee{fill:#626c77}
 .band{fill:#ff7f2a;stroke:#ff7f2a}
 .budget{stroke:#e6b34d}
 .idle{fill:#e8ebee;fill-opacity:.35}
@@ -58,8 +60,17 @@ pub(crate) const LEGEND: &str = r##"<g class="legend">
 <g transform="translate(56200 7500)"><path class="mark" stroke-width="120" d="M1800-700V700m-300-400l300 400l300-400"/><text class="m" x="3000" y="400">deadline</text></g>
 <g transform="translate(65000 7500)"><path class="mark" stroke-width="180" d="M1800-900V700"/><text class="m" x="3000" y="400">job finished</text></g>
 <g transform="translate(75400 7500)"><path class="late" d="M0-200h2400v400h-2400z"/><text class="m" x="3000" y="400">late, for so long</text></g>
-<g transform="translate(88600 7500)"><path class="charged" d="M0-700h2400v1400h-2400z"/><text class="m" x="3000" y="400">charged</text></g>
 </g>
+"##;
+
+/// The legend of charged ticks, as boxes with an outline.
+pub(crate) const CHARGED_LEGEND: &str =
+    r##"<g class="legend" transform="translate(88600 7500)"><path class="charged" d="M0-700h2400v1400h-2400z"/><text class="m" x="3000" y="400">charged</text></g>
+"##;
+
+/// The legend of charged ticks, as filled boxes.
+pub(crate) const CHARGED_FILL_LEGEND: &str =
+    r##"<g class="legend" transform="translate(88600 7500)"><path class="fee" d="M0-700h2400v1400h-2400z"/><text class="m" x="3000" y="400">charged</text></g>
 "##;
 
 /// The legend of the course of budgets, if they are drawn.

@@ -1,5 +1,5 @@
 -- The places of ticks.
-use Rattle.std.specs.Prelude.{ℕ, ◌+◌, ◌-◌, ◌*◌, ◌/◌, ◌<◌, ◌≤◌, max, min}
+use Rattle.std.specs.Prelude.{ℕ, ◌+◌, ◌-◌, ◌*◌, ◌/◌, ◌<◌, ◌≤◌, Bool, leb, max, min}
 use Rattle.std.specs.Int.{div_ceil}
 use Rattle.cbsrun_window.specs.Counts.{told}
 use Rattle.cbsrun_window.specs.Windows.{ticks_of}
@@ -54,6 +54,10 @@ x_of_cell a i = a.left + min i a.cells * a.width
 -- the right edge
 abbrev pub right_of : AxisSeen → ℕ
 right_of a = a.left + a.cells * a.width
+
+-- cells are at least 5 pixels wide, so an outline leaves some of a cell free
+abbrev pub is_wide : AxisSeen → Bool
+is_wide a = leb 500 a.width
 
 -- the first tick of a cell, at most 2^64 - 1
 abbrev pub tick_of_cell : AxisSeen → ℕ → ℕ

@@ -39,8 +39,19 @@ rise_of l = if l.compact then 150 else 400
 abbrev pub completion_text : AxisSeen → Layout → ℕ → List ℕ
 completion_text a l t = upright_text (x_at a t) (l.bar - rise_of l) (l.bar + l.height)
 
+-- the width of those lines, and that with an edge, which is at most 0.6 pixels wide on each side
+abbrev pub end_stroke : AxisSeen → ℕ
+end_stroke a = stroke_of a * 3 / 2
+
+abbrev pub edge_stroke : AxisSeen → ℕ
+edge_stroke a = end_stroke a + min 120 (a.width / 5)
+
+-- the lines of finished jobs, on an edge, which is seen in the dark: there lines and bars may be equally light
+unfoldable pub ends_path : AxisSeen → List ℕ → List ℕ
+ends_path a shape = lines_text (codes "edge") (edge_stroke a) shape ++ lines_text (codes "mark") (end_stroke a) shape
+
 unfoldable pub completions_path : AxisSeen → Layout → List ℕ → List ℕ
-completions_path a l ts = lines_text (codes "mark") (stroke_of a * 3 / 2) (flat_map (completion_text a l) ts)
+completions_path a l ts = ends_path a (flat_map (completion_text a l) ts)
 
 -- a cross at a tick in which a release is refused
 abbrev pub refusal_text : AxisSeen → Layout → ℕ → List ℕ

@@ -8,7 +8,7 @@ use Rattle.cbsrun_window.specs.declared.stretch.Kind.TheVariants as kind
 use Rattle.cbsrun_window.specs.declared.stretch.Stretch.{Stretch}
 use Rattle.cbs_rules.specs.declared.mode.Mode.{Mode}
 use Rattle.cbs_rules.specs.declared.mode.Mode.TheVariants as mode
-use Rattle.cbsrun_svg_shapes.specs.Axes.{AxisSeen, x_at}
+use Rattle.cbsrun_svg_shapes.specs.Axes.{AxisSeen, is_wide, x_at}
 use Rattle.cbsrun_svg_shapes.specs.declared.layout.Layout.{Layout}
 use Rattle.cbsrun_svg_shapes.specs.declared.spans.Place.{Place}
 use Rattle.cbsrun_svg_shapes.specs.Shapes.{box_text, label_text, path_text, stretch_text, titled_text, width_of}
@@ -72,10 +72,14 @@ bar_text a l mode name jobs j p =
 unfoldable pub other_text : AxisSeen → Layout → List ℕ → List ℕ → List ℕ → Stretch → List ℕ
 other_text a l class name what p = titled_text class (stretch_text a l.bar l.height p) (stretch_title name what p)
 
+-- the class of charged ticks: boxes with an outline, or filled ones if cells are narrow
+abbrev pub charged_class : AxisSeen → List ℕ
+charged_class a = if is_wide a then codes "charged" else codes "fee"
+
 -- a stretch of ticks in which a server does something
 abbrev pub span_text : AxisSeen → Layout → Mode → List ℕ → List ChartJob → Kind → Stretch → List ℕ
 span_text a l mode name jobs (kind.Runs j) p = bar_text a l mode name jobs j p
-span_text a l mode name jobs kind.Charged p = other_text a l (codes "charged") name (codes " charged") p
+span_text a l mode name jobs kind.Charged p = other_text a l (charged_class a) name (codes " charged") p
 span_text a l mode name jobs kind.Throttled p = other_text a l (codes "hatch") name (codes " throttled") p
 span_text a l mode name jobs kind.Resting p = other_text a l (codes "hatch") name (codes " throttled, without a job") p
 span_text a l mode name jobs _ p = []

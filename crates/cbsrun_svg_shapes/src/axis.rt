@@ -2,7 +2,7 @@
 
 ghost use Rattle.std.specs.Prelude.{◌≡◌, ◌+◌, ◌≤◌, ◌<◌};
 ghost use Rattle.cbsrun_window.specs.Counts.{told};
-ghost use Rattle.cbsrun_svg_shapes.specs.Axes.{axis_of, cell_of, cells_of, right_of, tick_of_cell, x_at, x_of_cell};
+ghost use Rattle.cbsrun_svg_shapes.specs.Axes.{axis_of, cell_of, cells_of, is_wide, right_of, tick_of_cell, x_at, x_of_cell};
 
 use cbsrun_chart::Window;
 use std::marker::Model;
@@ -109,6 +109,13 @@ impl Axis {
         ensures small { result ≤ 5000 }
     {
         self.width
+    }
+
+    /// Returns whether cells are at least 5 pixels wide, so that an outline leaves some of a cell free.
+    pub fn is_wide(&self) -> bool
+        ensures { result ≡ is_wide self.now }
+    {
+        self.width >= 500
     }
 
     /// Returns how many ticks a cell has.

@@ -1,7 +1,7 @@
 //! The marks of ticks: jobs that come, are finished or are refused, and deadlines. Also the course of a budget.
 
 ghost use Rattle.std.specs.Prelude.{◌≡◌, ◌≤◌, ◌^◌, ◌<◌, ◌++◌, OnOk, string_bytes};
-ghost use Rattle.cbsrun_svg_shapes.specs.Marks.{arrival_text, arrivals_path, budget_text, completion_text, completions_path, corner_text, corners_text, course_path, crosses_text, deadline_text, deadlines_path, half_of, high_of, level_of, refusal_text, refused_path, rise_of, stroke_of};
+ghost use Rattle.cbsrun_svg_shapes.specs.Marks.{arrival_text, arrivals_path, budget_text, completion_text, completions_path, corner_text, corners_text, course_path, crosses_text, deadline_text, deadlines_path, edge_stroke, end_stroke, ends_path, half_of, high_of, level_of, refusal_text, refused_path, rise_of, stroke_of};
 
 use crate::axis::Axis;
 use crate::layout::Layout;
@@ -139,6 +139,32 @@ fn append_completion(
     )
 }
 
+/// Returns the width of the lines of finished jobs.
+fn end_stroke(axis: &Axis) -> u64
+    ensures value { result ≡ end_stroke axis.now }
+    ensures small { result ≤ 180 }
+{
+    stroke_of(axis) * 3 / 2
+}
+
+/// Returns the width of the lines of finished jobs with their edge, which is at most 0.6 pixels wide on each side.
+fn edge_stroke(axis: &Axis) -> u64
+    ensures { result ≡ edge_stroke axis.now }
+{
+    end_stroke(axis) + (axis.width() / 5).min(120)
+}
+
+/// Appends the lines of finished jobs, which have this shape. An edge below them is seen in the dark, where lines and
+/// bars may be equally light.
+#[tactic(auto, unfolding(crate::specs::Marks::ends_path))]
+fn append_ends(text: &mut String, axis: &Axis, shape: &str) -> Result<(), AllocError>
+    ensures { OnOk result (string_bytes text.new ≡ string_bytes text.old
+        ++ ends_path axis.now shape.now) }
+{
+    append_lines(text, "edge", edge_stroke(axis), shape)?;
+    append_lines(text, "mark", end_stroke(axis), shape)
+}
+
 /// Appends lines at the ticks at which jobs are finished.
 #[tactic(auto, unfolding(crate::specs::Marks::completions_path))]
 pub fn append_completions(
@@ -155,7 +181,7 @@ pub fn append_completions(
     for tick in ticks {
         append_completion(&mut shape, axis, layout, *tick)?;
     }
-    append_lines(text, "mark", stroke_of(axis) * 3 / 2, &shape)
+    append_ends(text, axis, &shape)
 }
 
 /// Appends a cross at a tick in which a release is refused.

@@ -2,7 +2,7 @@
 
 ghost use Rattle.std.specs.Prelude.{◌≡◌, ◌++◌, codes, decimal, IfOk, OnOk, string_bytes};
 ghost use Rattle.cbsrun_svg_shapes.specs.Shapes.{stretch_text};
-ghost use Rattle.cbsrun_svg_shapes.specs.Spans.{bar_class, bar_text, bar_title, finish_text, is_pale, job_text, late_by_text, late_text, number_text, other_text, pale_path, pale_text, placed_span, stretch_title};
+ghost use Rattle.cbsrun_svg_shapes.specs.Spans.{bar_class, bar_text, bar_title, charged_class, finish_text, is_pale, job_text, late_by_text, late_text, number_text, other_text, pale_path, pale_text, placed_span, stretch_title};
 
 use crate::axis::Axis;
 use crate::layout::Layout;
@@ -237,6 +237,13 @@ fn append_other(
     append_titled(text, class, &shape, &title)
 }
 
+/// Returns the class of charged ticks: boxes with an outline, or filled ones if cells are narrow.
+fn charged_class(axis: &Axis) -> &'static str
+    ensures { result.now ≡ charged_class axis.now }
+{
+    if axis.is_wide() { "charged" } else { "fee" }
+}
+
 /// Appends a stretch of ticks in which a server does something.
 pub fn append_span(
     alloc: Global,
@@ -250,7 +257,16 @@ pub fn append_span(
 {
     match span.kind {
         Kind::Runs(number) => append_bar(alloc, text, place, jobs, number, span),
-        Kind::Charged => append_other(alloc, text, place, "charged", " charged", span),
+        Kind::Charged => {
+            append_other(
+                alloc,
+                text,
+                place,
+                charged_class(&place.axis),
+                " charged",
+                span,
+            )
+        }
         Kind::Throttled => append_other(alloc, text, place, "hatch", " throttled", span),
         Kind::Resting => append_other(
             alloc,

@@ -1,9 +1,11 @@
 -- The whole timeline.
 use Rattle.std.specs.Prelude.{ℕ, ◌+◌, ◌-◌, ◌*◌, ◌/◌, ◌%◌, eqb, if◌then◌else◌, List, [], ◌++◌, codes, decimal, flat_map, length, map, replicate, string_bytes}
-use Rattle.std.specs.Prelude.{ltb, Bool}
+use Rattle.std.specs.Prelude.{ltb, Bool, Option, Some, None}
 use Rattle.std.specs.List.{range_with_len, list_any}
 use Rattle.std.specs.Str.{trim_end}
 use Rattle.cbsrun_chart.specs.declared.chart.ServerChart.{ServerChart}
+use Rattle.cbsrun_chart.specs.Hidden.{hidden_of, hidden_text}
+use Rattle.cbsrun_chart.specs.declared.hidden.Hidden.{Hidden}
 use Rattle.cbsrun_chart.specs.declared.picture.Drawn.{Drawn}
 use Rattle.cbsrun_timeline.specs.Signs.{GridSeen, tick_of, blocks_of, count_of, first_of, grid_of, is_fine, blank, column_mark, column_sign}
 use Rattle.cbsrun_window.specs.Counts.{counts_of}
@@ -74,6 +76,11 @@ cell_text g = if is_fine g then [] else codes ", a column is " ++ decimal g.cell
 unfoldable pub heading_text : GridSeen → List ℕ → List ℕ
 heading_text g file = file ++ codes ", ticks " ++ decimal g.from ++ codes " to " ++ decimal g.to ++ cell_text g ++ codes "\n"
 
+-- the line of how many ticks of the run are not shown, if there are any
+unfoldable pub hidden_line : Option Hidden → List ℕ
+hidden_line None = []
+hidden_line (Some h) = hidden_text h ++ codes "\n"
+
 -- the lines of all servers in a block
 unfoldable pub servers_text : GridSeen → ℕ → ℕ → List Drawn → List ℕ
 servers_text g first count servers = flat_map (server_text g first count) servers
@@ -100,7 +107,9 @@ legend_text g w servers = codes "\n" ++ (if is_fine g then LEGEND.now else COLUM
 
 -- a timeline on a grid
 unfoldable pub drawn_text : GridSeen → Picture → List ℕ
-drawn_text g p = heading_text g (string_bytes p.file) ++ blocks_text g p.servers.items ++ legend_text g p.window p.servers.items
+drawn_text g p =
+    heading_text g (string_bytes p.file) ++ hidden_line (hidden_of p.window p.end) ++ blocks_text g p.servers.items
+    ++ legend_text g p.window p.servers.items
 
 -- the timeline of a picture
 abbrev pub timeline_text : Picture → List ℕ

@@ -2,13 +2,13 @@
 
 ghost use Rattle.std.specs.Prelude.{◌≡◌, ◌≤◌, ◌<◌, ◌++◌, IfOk, OnOk, string_bytes};
 ghost use Rattle.std.specs.List.{list_any};
-ghost use Rattle.cbsrun_timeline.specs.Timelines.{block_text, blocks_text, cell_text, charged_legend, drawn_text, heading_text, is_charged, legend_text, servers_text, timeline_text};
+ghost use Rattle.cbsrun_timeline.specs.Timelines.{block_text, blocks_text, cell_text, charged_legend, drawn_text, heading_text, hidden_line, is_charged, legend_text, servers_text, timeline_text};
 
 use crate::grid::Grid;
 use crate::legend::{CHARGED_LEGEND, COLUMN_LEGEND, LEGEND};
 use crate::lines::append_server;
 use crate::ruler::append_ruler;
-use cbsrun_chart::{Counts, Drawn, Picture, Window};
+use cbsrun_chart::{Counts, Drawn, Hidden, Picture, Window};
 use std::alloc::{AllocError, Global};
 use std::fmt::Write;
 
@@ -35,6 +35,17 @@ fn append_heading(text: &mut String, grid: &Grid, file: &str) -> Result<(), Allo
     write!(text, "{file}, ticks {from} to {to}")?;
     append_cell(text, grid)?;
     text.push_str("\n")
+}
+
+/// Appends the line of how many ticks of the run are not shown, if there are any.
+#[tactic(auto, unfolding(crate::specs::Timelines::hidden_line))]
+fn append_hidden(text: &mut String, hidden: Option<Hidden>) -> Result<(), AllocError>
+    ensures { OnOk result (string_bytes text.new ≡ string_bytes text.old ++ hidden_line hidden) }
+{
+    match hidden {
+        Some(hidden) => writeln!(text, "{hidden}"),
+        None => Ok(()),
+    }
 }
 
 /// Appends the lines of all servers in a block.
@@ -154,6 +165,7 @@ pub fn timeline_text(alloc: Global, picture: &Picture) -> Result<String, AllocEr
     let grid = Grid::of(alloc, picture)?;
     let mut text = String::new(alloc);
     append_heading(&mut text, &grid, &picture.file)?;
+    append_hidden(&mut text, picture.hidden())?;
     append_blocks(alloc, &mut text, &grid, &picture.servers)?;
     append_legend(&mut text, &grid, picture.window, &picture.servers)?;
     Ok(text)

@@ -138,6 +138,110 @@ fn a_chart_by_hand(rt: HostRuntime) -> Result<(), Fail> {
     Ok(())
 }
 
+/// The view of a soft server with its first job, and of the throttled one with a second job after [`DONE`].
+const FIRST: ServerView = ServerView {
+    budget: 1,
+    deadline: 10,
+    throttled: false,
+    closed: false,
+    accepted: 1,
+    finished: 0,
+};
+
+const SECOND: ServerView = ServerView {
+    budget: 0,
+    throttled: true,
+    accepted: 2,
+    ..DONE
+};
+
+/// A unit of a third server is charged 6 ticks. Meanwhile a job comes for the soft server, which is its first, and one
+/// for the throttled server, which has none.
+static CHARGED_STEPS: [(u64, Event, Option<ServerView>); 5] = [
+    (
+        12,
+        LAST,
+        Some(ServerView {
+            budget: 0,
+            throttled: true,
+            ..DONE
+        }),
+    ),
+    (
+        19,
+        Event::Charged {
+            server: 2,
+            ticks: 6,
+        },
+        Some(FIRST),
+    ),
+    (
+        19,
+        Event::Accepted {
+            job: Arrival { came: 15, ..JOB },
+            number: 1,
+            promised: None,
+        },
+        Some(SECOND),
+    ),
+    (
+        19,
+        Event::Accepted {
+            job: Arrival {
+                server: 1,
+                came: 16,
+                ..JOB
+            },
+            number: 0,
+            promised: None,
+        },
+        Some(FIRST),
+    ),
+    (
+        20,
+        Event::Ran(Ran::Unit { server: 1, seq: 0 }),
+        Some(ServerView { budget: 0, ..FIRST }),
+    ),
+];
+
+/// What the throttled and the soft server do. Each has its job from when it came, and not only after the charge.
+static HELD: [(Kind, u64, u64); 4] = [
+    (Kind::Runs(0), 11, 12),
+    (Kind::Resting, 12, 15),
+    (Kind::Throttled, 15, 21),
+    (Kind::Waits, 21, 24),
+];
+
+static WAITED: [(Kind, u64, u64); 3] = [
+    (Kind::Waits, 16, 19),
+    (Kind::Runs(0), 19, 20),
+    (Kind::Waits, 20, 24),
+];
+
+#[test]
+fn a_job_waits_from_when_it_came_in_anothers_charge(rt: HostRuntime) -> Result<(), Fail> {
+    let mut plan = Plan::new(Bound::new(1, 1)?);
+    for _server in 0..3 {
+        plan.admit(Reservation::new(2, 10)?)?;
+    }
+    let mut view = ChartView::new(rt.alloc(), Window::new(2, 24)?, &plan)?;
+    for &(clock, event, shows) in &CHARGED_STEPS {
+        view.see(
+            &mut (),
+            Seen {
+                clock,
+                event,
+                view: shows,
+            },
+        )?;
+    }
+    let chart = view.into_chart(rt.alloc(), 25)?;
+    assert!(rt; chart.servers.len() == 3);
+    same_stretches(&rt, "throttled", &chart.servers[0].spans, &HELD);
+    same_stretches(&rt, "soft", &chart.servers[1].spans, &WAITED);
+    Ok(())
+}
+
 #[test]
 fn windows_have_limits(rt: HostRuntime) {
     same(

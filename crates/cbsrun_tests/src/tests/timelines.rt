@@ -29,6 +29,7 @@ fn long_names_leave_fewer_columns(rt: HostRuntime) {
 
 const HAND_TIMELINE: &str = "\
 HAND.toml, ticks 1 to 20
+Not shown: 1 ticks before, 0 after.
 
       1         11
       |    '    |    '

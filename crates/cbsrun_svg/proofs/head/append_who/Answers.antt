@@ -4,4 +4,4 @@ use Rattle.cbsrun_svg.proofs.head.append_who.Goals as goal
 
 pub returns : goal.returns
 unfolding who_text
-returns c = simp append_assoc c.write.ensures.bytes
+returns c = simp append_assoc (simp (append_assoc, c.in_ok-write.ensures.bytes) at c.append_was_charged.ensures)

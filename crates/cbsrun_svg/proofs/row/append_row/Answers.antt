@@ -14,6 +14,7 @@ returns c =
       c.in_ok-append_inside.ensures,
       c.in_ok-append_units.ensures,
       c.units_of.ensures,
+      c.charged_of.ensures,
       c.in_ok-append_names.ensures,
       c.in_ok-writeln.ensures.bytes,
     ) refl)
