@@ -64,9 +64,9 @@ answer_of {F} read answers answer f h p q told = let same : h ≡ f = cc in subs
 
 -- with `--strict` no pipe counts as closed
 never_closed : (closed strict : Bool) → (closed && not strict) ≡ true → strict ≡ true → ⊥
-never_closed true true p q = absurd p
-never_closed true false p q = absurd q
-never_closed false strict p q = absurd p
+never_closed true true p q = absurd cc
+never_closed true false p q = absurd cc
+never_closed false strict p q = absurd cc
 
 -- a command with an answer ends as it did, and as it was told
 pub ends_by_answer : {F : Type 0} (c : Command F) (answers : F → Bool → Type 0) (strict : Bool) (name bytes : List ℕ) (closed : Bool)

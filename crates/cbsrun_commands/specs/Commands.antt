@@ -84,9 +84,9 @@ pub data EndsByAnswer {F : Type 0} (c : Command F) (answers : F → Bool → Typ
 -- what a command that may find nothing to print left on the output, by its result: with no reason a whole text. With a
 -- reason there is none, and `lacks` says so
 abbrev pub DoesOrLacks : {F A : Type 0} → Command F → (F → Type 0) → List ℕ → Result (Option A) Stopped → Writer → Writer → Type 0
-DoesOrLacks c lacks bytes (Ok None) old new = Does c bytes (Ok tt) old new
+DoesOrLacks c lacks bytes (Ok None) old new = Does {A = Unit {0}} c bytes (Ok (tt {0})) old new
 DoesOrLacks {F} c lacks bytes (Ok (Some why)) old new = (f : F) × (c.read bytes ≡ Ok f) × lacks f × IsUntouched old new
-DoesOrLacks {F} {A} c lacks bytes (Err stopped) old new = Does {F} {A} c bytes (Err stopped) old new
+DoesOrLacks c lacks bytes (Err cause) old new = Does {A = Unit {0}} c bytes (Err cause) old new
 
 -- A command that may find nothing to print ended with this status, and left out and err so. If there is a text, it ended
 -- as any command does. Else the status is 1, and what is written to err may be cut short

@@ -3,6 +3,7 @@
 ghost use Rattle.cbsrun_tasks.specs.Spelling.{file};
 ghost use Rattle.std.specs.Prelude.{◌≡◌};
 ghost use Rattle.cbsrun_loads.specs.Sketches.{sketch};
+ghost use Rattle.cbsrun_loads.specs.Spelling.{load};
 ghost use Rattle.cbsrun_commands.specs.Outputs.{changed, changed_load};
 ghost use Rattle.cbsrun_toml_tables.specs.Documents.{no_memory};
 ghost use Rattle.cbsrun_toml_tables.specs.Fields.{Gives};

@@ -4,7 +4,7 @@ ghost use Rattle.cbsrun_commands.specs.Commands.{Does, DoesOrLacks, EndsOrLacks}
 ghost use Rattle.cbsrun_commands.specs.Outputs.{size_command, IsNotSized};
 ghost use Rattle.cbsrun_lines.specs.Writers.{MayWrite};
 
-use crate::ending::{ANSWER_IS_NO, Stopped, print, status_of};
+use crate::ending::{ANSWER_IS_NO, DONE, Stopped, print, status_of};
 use crate::reading::sketch_file;
 use cbsrun_io::{ByteOutput, write_pieces};
 use cbsrun_sized::{not_sized_text, sized_load};
@@ -25,13 +25,15 @@ fn size<O: ByteOutput>(
         (O.state out.old) (O.state out.new) }
 {
     let sketch = sketch_file(alloc, memory, bytes)?;
-    match sized_load(alloc, &sketch, all) {
-        Ok(text) => {
-            print(&text, out)?;
-            Ok(None)
+    let text = match sized_load(alloc, &sketch, all) {
+        Ok(text) => text,
+        Err(why) => {
+            let told = not_sized_text(alloc, name, &sketch, why)?;
+            return Ok(Some(told));
         }
-        Err(why) => Ok(Some(not_sized_text(alloc, name, &sketch, why)?)),
-    }
+    };
+    print(&text, out)?;
+    Ok(None)
 }
 
 /// Prints the load file of the sketch that the bytes spell, with a reservation for each server. A sketch is a load in which
@@ -62,13 +64,16 @@ pub fn size_bytes_within<O: ByteOutput, E: ByteOutput>(
         (O.closed out.new)
         (O.state out.old) (O.state out.new) (E.state err.old) (E.state err.new) result }
 {
-    let ended = match size(alloc, memory, all, name, bytes, out) {
-        Ok(Some(why)) => {
-            let _written = write_pieces(err, &[why.as_str()]);
-            return ANSWER_IS_NO;
+    let found = match size(alloc, memory, all, name, bytes, out) {
+        Ok(found) => found,
+        Err(stopped) => {
+            let closed = out.is_closed();
+            return status_of(alloc, memory, name, bytes, Err(stopped), closed, err);
         }
-        Ok(None) => Ok(()),
-        Err(stopped) => Err(stopped),
     };
-    status_of(alloc, memory, name, bytes, ended, out.is_closed(), err)
+    let Some(why) = found else {
+        return DONE;
+    };
+    let _written = write_pieces(err, &[why.as_str()]);
+    ANSWER_IS_NO
 }

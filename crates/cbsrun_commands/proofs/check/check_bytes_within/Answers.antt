@@ -5,5 +5,5 @@ use Rattle.cbsrun_commands.proofs.check.check_bytes_within.Goals as goal
 
 pub returns : goal.returns
 returns g c =
-    rw ← c.is_closed.ensures (ends_by_answer (printing_command any_file IsCheckText) ArePromised c.args.strict c.args.name.now c.args.bytes.now
+    rw (← c.is_closed.ensures) (ends_by_answer (printing_command any_file IsCheckText) ArePromised c.args.strict c.args.name.now c.args.bytes.now
     _ _ _ _ _ c.check-ended.result c.status_by_answer.result c.check-ended.ensures.printed c.check-ended.ensures.answer c.status_by_answer.ensures)

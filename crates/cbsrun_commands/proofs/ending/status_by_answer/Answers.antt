@@ -3,6 +3,3 @@ use Rattle.cbsrun_commands.proofs.ending.status_by_answer.Goals as goal
 
 pub returns-in-Ok : goal.returns-in-Ok
 returns-in-Ok g c = rw c.in-Ok.is (c.status_done.ensures, untouched _)
-
-pub returns-in-Err : goal.returns-in-Err
-returns-in-Err g c = rw c.in-Err.is c.status_of.ensures

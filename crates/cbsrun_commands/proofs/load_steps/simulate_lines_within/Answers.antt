@@ -4,5 +4,5 @@ use Rattle.cbsrun_commands.proofs.load_steps.simulate_lines_within.Goals as goal
 
 pub returns : goal.returns
 returns g c =
-    rw ← c.is_closed.ensures (ends (lines_command c.args.changes) c.args.name.now c.args.bytes.now _ _ _ _ _ c.write_steps-ended.result c.status_of.result
+    rw (← c.is_closed.ensures) (ends (lines_command c.args.changes) c.args.name.now c.args.bytes.now _ _ _ _ _ c.write_steps-ended.result c.status_of.result
     c.write_steps-ended.ensures c.status_of.ensures)

@@ -1,4 +1,4 @@
-use Rattle.std.proofs.Common.{◌∙◌, subst, sym, List, ℕ, string_bytes}
+use Rattle.std.proofs.Common.{◌∙◌, subst, sym}
 use Rattle.std.proofs.lemmas.Result.{err_from_is_err_and}
 use Rattle.cbsrun_lines.proofs.Writers.{untouched}
 use Rattle.cbsrun_lines.specs.Writers.{IsUntouched}
@@ -11,6 +11,9 @@ returns-in_err-sketch g c =
     let p = err_from_is_err_and c.from_residual.result c.from_residual.ensures.1 in
     rw (p.1, p.2) (c.in_err-sketch.ensures, untouched _)
 
+pub returns-in-Err : goal.returns-in-Err
+returns-in-Err g c = (c.in_ok-sketch.sketch, c.in_ok-sketch.ensures, (c.in-Err.why, c.in-Err.ensures.err), untouched _)
+
 pub returns-in_err-print : goal.returns-in_err-print
 returns-in_err-print g c =
     let p = err_from_is_err_and c.from_residual-in_err-print.result c.from_residual-in_err-print.ensures.1 in
@@ -21,8 +24,8 @@ returns-in_err-print g c =
           c.in_err-print.ensures,
     )
 
-pub returns-in-Ok : goal.returns-in-Ok
-returns-in-Ok g c =
+pub returns : goal.returns
+returns g c =
     let p = c.in_ok-print.ensures in (
       c.in_ok-sketch.sketch,
       p.0,
@@ -30,11 +33,3 @@ returns-in-Ok g c =
       subst (IsSized c.in_ok-sketch.sketch c.args.all) (sym (p.1 ∙ c.deref.ensures)) c.in-Ok.ensures.ok,
       p.2,
     )
-
-pub returns-in_err-not_sized_text : goal.returns-in_err-not_sized_text
-returns-in_err-not_sized_text g c =
-    let p = err_from_is_err_and c.from_residual-in_err-not_sized_text.result c.from_residual-in_err-not_sized_text.ensures.1 in
-    rw (p.1, p.2) (c.in_ok-sketch.sketch, c.in_ok-sketch.ensures, untouched _)
-
-pub returns-in-Err : goal.returns-in-Err
-returns-in-Err g c = (c.in_ok-sketch.sketch, c.in_ok-sketch.ensures, (c.in-Err.why, c.in-Err.ensures.err), untouched _)
