@@ -1,6 +1,6 @@
 //! The command `size`: from the bytes of a sketch to a load file, and a status.
 
-ghost use Rattle.cbsrun_commands.specs.Commands.{Does, DoesOrLacks, EndsOrLacks};
+ghost use Rattle.cbsrun_commands.specs.Commands.{DoesOrLacks, EndsOrLacks};
 ghost use Rattle.cbsrun_commands.specs.Outputs.{size_command, IsNotSized};
 ghost use Rattle.cbsrun_lines.specs.Writers.{MayWrite};
 

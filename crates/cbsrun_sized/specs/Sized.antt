@@ -1,5 +1,5 @@
 -- A sketch with a reservation for each of its servers, as a load file.
-use Rattle.std.specs.Prelude.{◌≡◌, ℕ, ◌<◌, ◌⊎◌, Bool, if◌then◌else◌, get_or, length, List, [], MatchOption, Option, Some, None, Ok, Err, string_bytes}
+use Rattle.std.specs.Prelude.{◌≡◌, ℕ, ◌<◌, Bool, if◌then◌else◌, get_or, length, List, [], MatchOption, Option, Some, None, Ok, Err, string_bytes}
 use Rattle.cbs_guarantee.specs.Parts.{rate_at}
 use Rattle.cbs_rate.specs.Rate.{Rate}
 use Rattle.cbs_rules.specs.declared.mode.Mode.TheVariants.{Soft}
@@ -10,7 +10,6 @@ use Rattle.cbsrun_loads.specs.declared.sketch.Given.{Given}
 use Rattle.cbsrun_proposals.specs.Proposals.{rate, rate_of, IsEnough, IsNotEnough, IsProposal}
 use Rattle.cbsrun_proposals.specs.declared.remedy.Proposal.{Proposal}
 use Rattle.cbsrun_sizing.specs.ServerLoads.{sources_of, wanted_in, wanted_of}
-use Rattle.cbsrun_toml_tables.specs.Documents.{no_memory}
 use Rattle.cbsrun_sized.specs.declared.not_sized.NotSized.{NotSized}
 use Rattle.cbsrun_sized.specs.declared.not_sized.NotSized.TheVariants.{OutOfMemory, NothingProposed, NotAdmitted, NotPromised, SpellsAnother}
 

@@ -1,8 +1,6 @@
 //! The load file of a sketch with a reservation for each server. The only error of each call is out of memory.
 
-ghost use Rattle.std.specs.Prelude.{◌≡◌, ◌≤◌, ◌<◌, length, All};
-ghost use Rattle.cbs_rate.specs.Limits.{most_servers};
-ghost use Rattle.cbsrun_loads.specs.Loads.{IsSource};
+ghost use Rattle.std.specs.Prelude.{◌≡◌, ◌<◌, length};
 
 use crate::given::given_in;
 use cbsrun_loads::Sketch;

@@ -1,4 +1,4 @@
-use Rattle.std.proofs.Common.{◌+◌, ◌++◌, ◌∷◌, [], arith}
+use Rattle.std.proofs.Common.{arith}
 use Rattle.std.proofs.lemmas.List.{length_push}
 use Rattle.cbsrun_proposals.specs.Proposals.{rate_of}
 use Rattle.cbsrun_sizing.proofs.Greatest.{each_more}

@@ -1,6 +1,5 @@
-use Rattle.std.proofs.Common.{◌≡◌, ◌∙◌, ap, arith, string_bytes}
+use Rattle.std.proofs.Common.{arith}
 use Rattle.std.proofs.lemmas.Result.{err_from_is_err_and}
-use Rattle.cbsrun_loads.specs.Spelling.{load}
 use Rattle.cbsrun_sized.proofs.Remedies.{enough_if_none, is_there, not_enough_if_some}
 use Rattle.cbsrun_sized.proofs.sized.sized_load.Goals as goal
 
