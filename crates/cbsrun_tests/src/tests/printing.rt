@@ -54,18 +54,18 @@ const FAULT: &str = "cbsrun: file fault 5 OutOfRange at top\n";
 const LOAD_EXPLAINED: &str = "cbsrun: file fault 5 OutOfRange at top
 
 error: `load` is 2, and has to be 1
-  --> a.toml: top
+  --> a.toml:1: top
   |
-  | load = 2
+1 | load = 2
   |        ^ 1
 ";
 
 const TASKS_EXPLAINED: &str = "cbsrun: file fault 5 OutOfRange at top
 
 error: `format` is 3, and has to be 1 or 2
-  --> a.toml: top
+  --> a.toml:1: top
   |
-  | format = 3
+1 | format = 3
   |          ^ 1 to 2
 ";
 
