@@ -3,6 +3,7 @@ pub mod Servers
 pub mod Sketches
 pub mod Sources
 pub mod Spelling
+pub mod Times
 pub mod TopTables
 -- what the clauses name of the libraries below
 pub use Rattle.cbs_rate.specs.Limits

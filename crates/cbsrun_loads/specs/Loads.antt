@@ -1,5 +1,5 @@
 -- What a load file holds.
-use Rattle.std.specs.Prelude.{◌≡◌, ℕ, ◌≤◌, ◌<◌, List, length, All, IsSome}
+use Rattle.std.specs.Prelude.{◌≡◌, ℕ, ◌≤◌, ◌<◌, List, length, All, IsSome, Option}
 use Rattle.cbs_rate.specs.Limits.{most_backlog, longest_period}
 use Rattle.cbs_rate.specs.Plan.{Planned}
 use Rattle.cbs_rules.specs.Rules.{clock_end}
@@ -9,8 +9,9 @@ use Rattle.cbsrun_simulate.specs.Released.{HasRanges}
 use Rattle.cbsrun_simulate.specs.declared.terms.SourceTerms.{SourceTerms}
 
 -- the names, modes and plan of the servers, the greatest backlog of each, the sources, the tick at which a simulation
--- ends, and the seed
+-- ends, the seed, and the nanoseconds of a tick, if they are said
 pub record LoadFile : Type 0 where
+  pub tick : Option ℕ
   pub names : List (List ℕ)
   pub modes : List Mode
   pub plan : Planned

@@ -10,25 +10,29 @@ use Rattle.cbs_rules.specs.Rules.{clock_end}
 use Rattle.cbs_rules.specs.declared.mode.Mode.{Mode}
 use Rattle.cbs_rules.specs.declared.mode.Mode.TheVariants.{Soft}
 use Rattle.cbsrun_simulate.specs.declared.terms.SourceTerms.{SourceTerms}
+use Rattle.cbsrun_times.specs.declared.ticks.Rounding.TheVariants.{Up, Whole}
 use Rattle.cbsrun_toml_tables.specs.declared.fault.FileFault.{FileFault}
 use Rattle.cbsrun_toml_tables.specs.declared.fault.FileKind.{FileKind}
 use Rattle.cbsrun_toml_tables.specs.declared.fault.FileKind.TheVariants.{MissingKey, NotAdmitted}
 use Rattle.cbsrun_toml_tables.specs.declared.fault.Place.TheVariants.{Top, Source}
 use Rattle.cbsrun_toml_tables.specs.Documents.{at, document, taken_in}
-use Rattle.cbsrun_toml_tables.specs.Fields.{◌>>=◌, table_with, optional_integer_at, text_at, each_from}
+use Rattle.cbsrun_toml_tables.specs.Fields.{◌>>=◌, table_with, text_at, each_from}
 use Rattle.cbsrun_toml_tables.specs.Plans.{reservation, mode_of}
 use Rattle.cbsrun_loads.specs.Loads.{most_sources, IsSource}
 use Rattle.cbsrun_loads.specs.Servers.{name_of}
 use Rattle.cbsrun_loads.specs.Sources.{source_entry}
 use Rattle.cbsrun_loads.specs.Spelling.{unless_taken}
+use Rattle.cbsrun_loads.specs.Times.{optional_ticks_at}
 use Rattle.cbsrun_loads.specs.TopTables.{top_table}
 use Rattle.cbsrun_loads.specs.declared.sketch.Given.{Given}
 use Rattle.cbsrun_loads.specs.declared.sketch.ServerSketch.{ServerSketch}
 use Rattle.cbsrun_loads.specs.declared.sketch_server.SketchEntry.{SketchEntry}
 
 -- the names of the servers, and their modes and reservations, as far as these are given; the bound on the bandwidth of
--- all, the greatest backlog of each, the tick at which a simulation ends, the seed, and the sources
+-- all, the greatest backlog of each, the tick at which a simulation ends, the seed, the sources, and the nanoseconds of a
+-- tick, if they are said
 pub record SketchFile : Type 0 where
+  pub tick : Option ℕ
   pub names : List (List ℕ)
   pub servers : List ServerSketch
   pub bound : Fraction
@@ -71,14 +75,14 @@ pub record SketchData : Type 0 where
   pub server : ServerSketch
 
 -- the server of an entry, which has `budget` and `period`, or neither
-unfoldable pub sketch_entry : Data → Result SketchData FileKind
-sketch_entry entry = do
+unfoldable pub sketch_entry : Option ℕ → Data → Result SketchData FileKind
+sketch_entry tick entry = do
   table ← table_with (codes "name" ∷ codes "mode" ∷ []) (codes "budget" ∷ codes "period" ∷ []) entry
   _ ← both_or_none (codes "budget") (codes "period") table
   name_text ← text_at (codes "name") table
   mode_word ← text_at (codes "mode") table
-  budget_number ← optional_integer_at (codes "budget") table
-  period_number ← optional_integer_at (codes "period") table
+  budget_number ← optional_ticks_at tick Up (codes "budget") table
+  period_number ← optional_ticks_at tick Whole (codes "period") table
   name ← name_of name_text
   mode ← mode_of mode_word
   given ← given_by budget_number period_number
@@ -102,9 +106,9 @@ abbrev pub unless_full : List (List ℕ) → Result (Unit {0}) FileKind
 unless_full names = if ltb (length names) most_servers then Ok tt else Err NotAdmitted
 
 -- the servers with the one of one more entry
-abbrev pub sketched_entry : Sketched → Data → Result Sketched FileKind
-sketched_entry so_far entry = do
-  one ← sketch_entry entry
+abbrev pub sketched_entry : Option ℕ → Sketched → Data → Result Sketched FileKind
+sketched_entry tick so_far entry = do
+  one ← sketch_entry tick entry
   _ ← unless_taken so_far.names one.name
   _ ← unless_full so_far.names
   Ok (record { names = so_far.names ++ one.name ∷ []; servers = so_far.servers ++ one.server ∷ [] })
@@ -127,9 +131,10 @@ due_in_sketch servers t = due_in (get_or servers t.server no_server).given t.eve
 unfoldable pub sketch_in : Members → Result SketchFile FileFault
 sketch_in table = do
   top ← at Top (top_table table)
-  sketched ← taken_in sketched_entry 0 (record { names = []; servers = [] }) top.servers
-  sources ← each_from 0 (λ i entry. at (Source i) (source_entry sketched.names (due_in_sketch sketched.servers) entry)) top.sources
+  sketched ← taken_in (sketched_entry top.tick) 0 (record { names = []; servers = [] }) top.servers
+  sources ← each_from 0 (λ i entry. at (Source i) (source_entry top.tick sketched.names (due_in_sketch sketched.servers) entry)) top.sources
   Ok (record {
+    tick = top.tick;
     names = sketched.names;
     servers = sketched.servers;
     bound = top.bound;

@@ -2,7 +2,6 @@
 use Rattle.std.specs.Prelude.{ℕ, ℤ, codes, bytes_eq, get_or, unwrap_or, List, [], ◌∷◌, Option, Some, None, Result, Ok, Err}
 use Rattle.std.specs.List.{position}
 use Rattle.toml.specs.Data.{Data, Members, get_member}
-use Rattle.toml.specs.Data.{integer as an_integer}
 use Rattle.cbs_rate.specs.Limits.{longest_period, most_units}
 use Rattle.cbs_rate.specs.Rate.{Rate}
 use Rattle.cbs_rules.specs.Rules.{clock_end}
@@ -10,21 +9,32 @@ use Rattle.cbsrun_simulate.specs.Bounds.{Bounds}
 use Rattle.cbsrun_simulate.specs.declared.terms.SourceTerms.{SourceTerms}
 use Rattle.cbsrun_toml_tables.specs.declared.fault.FileKind.{FileKind}
 use Rattle.cbsrun_toml_tables.specs.declared.fault.FileKind.TheVariants.{OutOfRange}
-use Rattle.cbsrun_toml_tables.specs.Fields.{◌>>=◌, table_with, present, text_at, optional_integer_at, items, pair, within, of_some}
+use Rattle.cbsrun_times.specs.declared.ticks.Rounding.{Rounding}
+use Rattle.cbsrun_times.specs.declared.ticks.Rounding.TheVariants.{Up, Down}
+use Rattle.cbsrun_toml_tables.specs.Fields.{◌>>=◌, seen, table_with, present, text_at, optional_integer_at, items, all_integers, within, of_some}
+use Rattle.cbsrun_loads.specs.Times.{ticks, optional_ticks_at}
 use Rattle.cbsrun_loads.specs.declared.source.SourceFields.{SourceFields}
 
--- the least and the greatest number of a range. One number stands for both. There are none if an array has fewer or
--- more than two
-abbrev pub two_numbers : Data → Result (Option (ℤ × ℤ)) FileKind
-two_numbers (an_integer n) = Ok (Some (n, n))
-two_numbers d = items d >>= pair
+-- two numbers of ticks, or none if there are fewer or more of them
+abbrev pub two_ticks : Option ℕ → Rounding → List Data → Result (Option (ℤ × ℤ)) FileKind
+two_ticks tick rounding (first ∷ second ∷ []) =
+    ticks tick rounding first >>= λ least. ticks tick rounding second >>= λ greatest. Ok (Some (least, greatest))
+two_ticks tick rounding ds = seen (λ _. None) (all_integers ds)
 
--- the least and the greatest number of the range at a key, and of one at a key that may be left out
-unfoldable pub numbers_at : List ℕ → Members → Result (Option (ℤ × ℤ)) FileKind
-numbers_at key table = present key table >>= two_numbers
+-- the least and the greatest number of ticks of a range. One number stands for both. There are none if an array has fewer
+-- or more than two
+abbrev pub two_numbers : Option ℕ → Rounding → Data → Result (Option (ℤ × ℤ)) FileKind
+two_numbers tick rounding d = elim (items d) [
+  | Ok ds ↦ two_ticks tick rounding ds
+  | Err _ ↦ seen (λ n. Some (n, n)) (ticks tick rounding d)
+]
 
-unfoldable pub optional_numbers_at : List ℕ → Members → Result (Option (Option (ℤ × ℤ))) FileKind
-optional_numbers_at key table = of_some two_numbers (get_member key table)
+-- the least and the greatest number of ticks of the range at a key, and of one at a key that may be left out
+unfoldable pub numbers_at : Option ℕ → Rounding → List ℕ → Members → Result (Option (ℤ × ℤ)) FileKind
+numbers_at tick rounding key table = present key table >>= two_numbers tick rounding
+
+unfoldable pub optional_numbers_at : Option ℕ → Rounding → List ℕ → Members → Result (Option (Option (ℤ × ℤ))) FileKind
+optional_numbers_at tick rounding key table = of_some (two_numbers tick rounding) (get_member key table)
 
 -- the range from the least number, which is at least `low`, to the greatest, which is at most `high`
 abbrev pub range_within : ℕ → ℕ → Option (ℤ × ℤ) → Result Bounds FileKind
@@ -64,17 +74,18 @@ required_keys = codes "server" ∷ codes "every" ∷ codes "units" ∷ []
 abbrev pub optional_keys : List (List ℕ)
 optional_keys = codes "first" ∷ codes "jobs" ∷ codes "within" ∷ codes "overrun" ∷ []
 
--- the values of an entry's keys, or the first fault over all of them
-unfoldable pub source_fields : Data → Result FieldsData FileKind
-source_fields entry = do
+-- the values of an entry's keys, or the first fault over all of them. Work is rounded up to ticks, and times between jobs
+-- and within which they are wanted are rounded down
+unfoldable pub source_fields : Option ℕ → Data → Result FieldsData FileKind
+source_fields tick entry = do
   table ← table_with required_keys optional_keys entry
   server_name ← text_at (codes "server") table
-  first_number ← optional_integer_at (codes "first") table
-  every_numbers ← numbers_at (codes "every") table
-  units_numbers ← numbers_at (codes "units") table
+  first_number ← optional_ticks_at tick Down (codes "first") table
+  every_numbers ← numbers_at tick Down (codes "every") table
+  units_numbers ← numbers_at tick Up (codes "units") table
   jobs_number ← optional_integer_at (codes "jobs") table
-  within_number ← optional_integer_at (codes "within") table
-  overrun_numbers ← optional_numbers_at (codes "overrun") table
+  within_number ← optional_ticks_at tick Down (codes "within") table
+  overrun_numbers ← optional_numbers_at tick Up (codes "overrun") table
   Ok (record {
     server = server_name;
     first = first_number;
@@ -112,16 +123,16 @@ due_within ticks t = record t { within = Some (unwrap_or t.within ticks) }
 
 -- the source of an entry, in a file with servers of these names. It may not say within how many ticks its jobs are to be
 -- finished
-abbrev pub terms_entry : List (List ℕ) → Data → Result SourceTerms FileKind
-terms_entry names entry = do
-  fields ← source_fields entry
+abbrev pub terms_entry : Option ℕ → List (List ℕ) → Data → Result SourceTerms FileKind
+terms_entry tick names entry = do
+  fields ← source_fields tick entry
   spelled_by names fields
 
 -- the source of an entry, in a file with servers of these names, which say within how many ticks the jobs of a source are
 -- to be finished, if the entry does not
-abbrev pub source_entry : List (List ℕ) → (SourceTerms → ℕ) → Data → Result SourceTerms FileKind
-source_entry names due entry = do
-  terms ← terms_entry names entry
+abbrev pub source_entry : Option ℕ → List (List ℕ) → (SourceTerms → ℕ) → Data → Result SourceTerms FileKind
+source_entry tick names due entry = do
+  terms ← terms_entry tick names entry
   Ok (due_within (due terms) terms)
 
 -- in a load a job is to be finished within its server's period

@@ -40,9 +40,9 @@ abbrev pub unless_taken : List (List ℕ) → List ℕ → Result (Unit {0}) Fil
 unless_taken names name = if list_any (λ n. bytes_eq n name) names then Err OutOfRange else Ok tt
 
 -- the servers with the one of one more entry
-abbrev pub admitted_entry : Named → Data → Result Named FileKind
-admitted_entry so_far entry = do
-  server ← server_entry entry
+abbrev pub admitted_entry : Option ℕ → Named → Data → Result Named FileKind
+admitted_entry tick so_far entry = do
+  server ← server_entry tick entry
   _ ← unless_taken so_far.names server.name
   unless_refused (record { names = so_far.names ++ server.name ∷ []; setup = with_server so_far.setup server.reservation server.mode })
       (admit_refusal so_far.setup.plan server.reservation)
@@ -51,9 +51,10 @@ admitted_entry so_far entry = do
 unfoldable pub load_in : Members → Result LoadFile FileFault
 load_in table = do
   top ← at Top (top_table table)
-  servers ← taken_in admitted_entry 0 (record { names = []; setup = no_servers top.bound }) top.servers
-  sources ← each_from 0 (λ i entry. at (Source i) (source_entry servers.names (due_in_plan servers.setup.plan.rates) entry)) top.sources
+  servers ← taken_in (admitted_entry top.tick) 0 (record { names = []; setup = no_servers top.bound }) top.servers
+  sources ← each_from 0 (λ i entry. at (Source i) (source_entry top.tick servers.names (due_in_plan servers.setup.plan.rates) entry)) top.sources
   Ok (record {
+    tick = top.tick;
     names = servers.names;
     modes = servers.setup.modes;
     plan = servers.setup.plan;

@@ -7,6 +7,8 @@ use Rattle.cbs_rate.specs.Bound.{Fraction}
 use Rattle.cbs_rules.specs.Rules.{clock_end}
 use Rattle.cbsrun_toml_tables.specs.declared.fault.FileKind.{FileKind}
 use Rattle.cbsrun_toml_tables.specs.Fields.{◌>>=◌, with_keys, integer_at, items_at, pair_at, optional_integer_at, within, of_some, sized}
+use Rattle.cbsrun_times.specs.declared.ticks.Rounding.TheVariants.{Up}
+use Rattle.cbsrun_loads.specs.Times.{tick_at, ticks_at}
 use Rattle.cbsrun_toml_tables.specs.Plans.{bound_of}
 use Rattle.cbsrun_loads.specs.Loads.{most_sources}
 use Rattle.cbsrun_loads.specs.declared.top.TypedValues.{TypedValues}
@@ -18,12 +20,16 @@ kind_at table = do
   kind_number ← integer_at (codes "load") table
   within 1 1 kind_number
 
--- the keys that the top table must have. It may have a `seed` beside
+-- the keys that the top table must have, and those that may be left out
 abbrev pub required_keys : List (List ℕ)
 required_keys = codes "load" ∷ codes "bound" ∷ codes "backlog" ∷ codes "until" ∷ codes "server" ∷ codes "source" ∷ []
 
+abbrev pub optional_keys : List (List ℕ)
+optional_keys = codes "seed" ∷ codes "tick" ∷ []
+
 -- the values of the keys, each of its type
 pub record TypedData : Type 0 where
+  pub tick : Option ℕ
   pub bound : Option (ℤ × ℤ)
   pub backlog : ℤ
   pub until : ℤ
@@ -31,21 +37,23 @@ pub record TypedData : Type 0 where
   pub servers : List Data
   pub sources : List Data
 
--- the values, or the first fault over all keys. Unknown keys are tested first, then missing keys, then the types of the
--- values
+-- the values, or the first fault over all keys. Unknown keys are tested first, then missing keys, then the tick, then the
+-- types of the other values. The end is rounded up to ticks
 unfoldable pub typed_values : Members → Result TypedData FileKind
 typed_values table = do
-  _ ← with_keys required_keys (codes "seed" ∷ []) table
+  _ ← with_keys required_keys optional_keys table
+  tick ← tick_at table
   bound_pair ← pair_at (codes "bound") table
   backlog_number ← integer_at (codes "backlog") table
-  until_number ← integer_at (codes "until") table
+  until_number ← ticks_at tick Up (codes "until") table
   seed_number ← optional_integer_at (codes "seed") table
   servers ← items_at (codes "server") table
   sources ← items_at (codes "source") table
-  Ok (record { bound = bound_pair; backlog = backlog_number; until = until_number; seed = seed_number; servers = servers; sources = sources })
+  Ok (record { tick = tick; bound = bound_pair; backlog = backlog_number; until = until_number; seed = seed_number; servers = servers; sources = sources })
 
 -- what the top table spells
 pub record TopData : Type 0 where
+  pub tick : Option ℕ
   pub bound : Fraction
   pub backlog : ℕ
   pub until : ℕ
@@ -61,7 +69,7 @@ spelled_by n = do
   until ← within 1 clock_end n.until
   seed ← of_some (within 0 9223372036854775807) n.seed
   _ ← sized 0 most_sources n.sources
-  Ok (record { bound = bound; backlog = backlog; until = until; seed = unwrap_or seed 0; servers = n.servers; sources = n.sources })
+  Ok (record { tick = n.tick; bound = bound; backlog = backlog; until = until; seed = unwrap_or seed 0; servers = n.servers; sources = n.sources })
 
 -- what the top table spells, or its first fault. The kind of the load comes first
 abbrev pub top_table : Members → Result TopData FileKind
@@ -73,6 +81,7 @@ top_table table = do
 -- the values of each type, as the code holds them
 abbrev pub typed_view : TypedValues → TypedData
 typed_view n = record {
+  tick = n.tick;
   bound = n.bound;
   backlog = n.backlog;
   until = n.until;
@@ -84,6 +93,7 @@ typed_view n = record {
 -- the top table, as the code holds it
 abbrev pub top_view : TopTable → TopData
 top_view t = record {
+  tick = t.tick;
   bound = t.bound;
   backlog = t.backlog;
   until = t.until;

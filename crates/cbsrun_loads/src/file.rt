@@ -30,16 +30,17 @@ use toml::{Table, Value};
 /// and a server that the plan does not take.
 fn admit_entry(
     alloc: Global,
+    tick: Option<u64>,
     names: &mut Vec<String>,
     setup: &mut Setup,
     entry: &Value,
 ) -> Result<(), FileKind>
     requires { length names.old.items ≡ length setup.old.plan.rates }
     ensures servers { Gives OutOfMemory (λ _. named_view names.new.items setup.new) result
-        (admitted_entry (named_view names.old.items setup.old) (view entry.now)) }
+        (admitted_entry tick (named_view names.old.items setup.old) (view entry.now)) }
     ensures named { OnOk result (length names.new.items ≡ length setup.new.plan.rates) }
 {
-    let server = match server_entry(entry) {
+    let server = match server_entry(tick, entry) {
         Ok(server) => server,
         Err(kind) => return Err(kind),
     };
@@ -57,11 +58,12 @@ fn admit_entry(
 /// Returns the names, the plan and the modes of the servers of the entries of `server`.
 fn servers_of(
     alloc: Global,
+    tick: Option<u64>,
     bound: Bound,
     entries: &[Value],
 ) -> Result<(Vec<String>, Setup), FileFault>
     ensures servers { Gives no_memory (λ s. named_view s.0.items s.1) result
-        (taken_in admitted_entry 0 (named_view [] (no_servers bound)) (map view entries.now)) }
+        (taken_in (admitted_entry tick) 0 (named_view [] (no_servers bound)) (map view entries.now)) }
     ensures named { IfOk result (λ s. length s.0.items ≡ length s.1.plan.rates) }
 {
     let mut names = Vec::new(alloc);
@@ -69,7 +71,7 @@ fn servers_of(
     for (i, entry) in entries.iter().enumerate() {
         at(
             Place::Server(i as u64),
-            admit_entry(alloc, &mut names, &mut setup, entry),
+            admit_entry(alloc, tick, &mut names, &mut setup, entry),
         )?;
     }
     Ok((names, setup))
@@ -78,6 +80,7 @@ fn servers_of(
 /// Returns the sources of the entries of `source`, in a file with servers of these names.
 pub fn sources_of<D: Due>(
     alloc: Global,
+    tick: Option<u64>,
     names: &[String],
     servers: &D,
     entries: &[Value],
@@ -85,14 +88,17 @@ pub fn sources_of<D: Due>(
     requires few { length names.now ≤ most_servers }
     requires named { length names.now ≡ D.servers servers.now }
     ensures sources { Gives no_memory (λ v. v.items) result
-        (each_from 0 (λ i e. at (AtSource i) (source_entry (map string_bytes names.now)
+        (each_from 0 (λ i e. at (AtSource i) (source_entry tick (map string_bytes names.now)
         (D.due servers.now) e)) (map view entries.now)) }
     ensures lawful { IfOk result (λ v. All (IsSource (length names.now)) v.items) }
     ensures count { IfOk result (λ v. length v.items ≡ length entries.now) }
 {
     let mut sources = Vec::new(alloc);
     for (i, entry) in entries.iter().enumerate() {
-        let source = at(Place::Source(i as u64), source_entry(names, servers, entry))?;
+        let source = at(
+            Place::Source(i as u64),
+            source_entry(tick, names, servers, entry),
+        )?;
         let Ok(()) = sources.push(source) else {
             return Err(faulty(Place::Top, FileKind::OutOfMemory));
         };
@@ -110,9 +116,10 @@ pub fn load_in(alloc: Global, table: &Table) -> Result<Load, FileFault>
         Ok(top) => top,
         Err(kind) => return Err(faulty(Place::Top, kind)),
     };
-    let (names, setup) = servers_of(alloc, top.bound, top.servers)?;
-    let sources = sources_of(alloc, &names, setup.plan(), top.sources)?;
+    let (names, setup) = servers_of(alloc, top.tick, top.bound, top.servers)?;
+    let sources = sources_of(alloc, top.tick, &names, setup.plan(), top.sources)?;
     Ok(Load {
+        tick: top.tick,
         names,
         setup,
         backlog: top.backlog,

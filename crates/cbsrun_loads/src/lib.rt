@@ -9,6 +9,7 @@ mod sketch;
 mod sketch_file;
 mod sketch_server;
 mod source;
+mod times;
 mod top;
 
 pub use file::{load_in, read_load, read_load_within};

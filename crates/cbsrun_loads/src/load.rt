@@ -13,6 +13,7 @@ use std::marker::Model;
 ///
 /// The backlog is 1 to 4096, and the end is 1 to 10^12. Each source gives jobs to a server of the plan.
 pub struct Load {
+    pub(crate) tick: Option<u64>,
     pub(crate) names: Vec<String>,
     pub(crate) setup: Setup,
     pub(crate) backlog: u64,
@@ -26,6 +27,7 @@ pub struct Load {
 impl Drop for Load {
     fn drop(self) {
         let Load {
+            tick: _,
             names: _,
             setup: _,
             backlog: _,
@@ -42,12 +44,19 @@ impl Model for Load {
 
     ghost Value = { LoadFile };
 
-    ghost view = { λ f. record { names = map string_bytes f.names.items; modes = f.setup.modes; plan = f.setup.plan; backlog = f.backlog; until = f.until; seed = f.seed; sources = f.sources.items } };
+    ghost view = { λ f. record { tick = f.tick; names = map string_bytes f.names.items; modes = f.setup.modes; plan = f.setup.plan; backlog = f.backlog; until = f.until; seed = f.seed; sources = f.sources.items } };
 
-    ghost invariant = { λ f. IsLoad (record { names = map string_bytes f.names.items; modes = f.setup.modes; plan = f.setup.plan; backlog = f.backlog; until = f.until; seed = f.seed; sources = f.sources.items }) };
+    ghost invariant = { λ f. IsLoad (record { tick = f.tick; names = map string_bytes f.names.items; modes = f.setup.modes; plan = f.setup.plan; backlog = f.backlog; until = f.until; seed = f.seed; sources = f.sources.items }) };
 }
 
 impl Load {
+    /// Returns the nanoseconds of a tick, if the file says how long it is.
+    pub fn tick(&self) -> Option<u64>
+        ensures { result ≡ self.now.tick }
+    {
+        self.tick
+    }
+
     /// Returns the names of the servers, by number: one for each server of the plan.
     pub fn names(&self) -> &[String]
         ensures value { map string_bytes result.now ≡ self.now.names }
@@ -100,6 +109,7 @@ impl Load {
     {
         &self.sources
     }
+
     /// Returns the load with this seed in place of its own.
     pub fn with_seed(mut self, seed: u64) -> Load
         ensures { result ≡ with_seed seed self }

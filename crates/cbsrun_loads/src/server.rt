@@ -6,9 +6,11 @@ ghost use Rattle.toml.specs.View.{view};
 ghost use Rattle.cbsrun_toml_tables.specs.Fields.{seen};
 ghost use Rattle.cbsrun_loads.specs.Servers.{is_name_byte, name_of, server_entry, server_view};
 
+use crate::times::ticks_at;
 use cbs_rate::Reservation;
 use cbs_rules::Mode;
-use cbsrun_toml_tables::{FileKind, integer_at, mode_of, reservation, table_with, text_at};
+use cbsrun_times::Rounding;
+use cbsrun_toml_tables::{FileKind, mode_of, reservation, table_with, text_at};
 use toml::Value;
 
 /// The longest name of a server, in bytes.
@@ -54,16 +56,16 @@ pub fn is_taken(names: &[String], name: &str) -> bool
     names.iter().any(|other| other.as_str() == name)
 }
 
-/// Returns the server of one entry. This does not test whether another server has its name.
+/// Returns the server of one entry, in a file with this tick. This does not test whether another server has its name.
 #[tactic(auto, unfolding(crate::specs::Servers::server_entry))]
-pub fn server_entry(entry: &Value) -> Result<ServerEntry<'_>, FileKind>
-    ensures { seen server_view result ≡ server_entry (view entry.now) }
+pub fn server_entry(tick: Option<u64>, entry: &Value) -> Result<ServerEntry<'_>, FileKind>
+    ensures { seen server_view result ≡ server_entry tick (view entry.now) }
 {
     let table = table_with(entry, &["name", "mode", "budget", "period"], &[])?;
     let name = text_at(table, "name")?;
     let mode = text_at(table, "mode")?;
-    let budget = integer_at(table, "budget")?;
-    let period = integer_at(table, "period")?;
+    let budget = ticks_at(tick, Rounding::Up, table, "budget")?;
+    let period = ticks_at(tick, Rounding::Whole, table, "period")?;
     let name = name_of(name)?;
     let mode = mode_of(mode)?;
     let reservation = reservation(budget, period)?;

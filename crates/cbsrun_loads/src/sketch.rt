@@ -31,6 +31,7 @@ pub struct ServerSketch {
 /// There are at most 64 servers. The backlog is 1 to 4096, and the end is 1 to 10^12. Each source gives jobs to one of
 /// the servers.
 pub struct Sketch {
+    pub(crate) tick: Option<u64>,
     pub(crate) names: Vec<String>,
     pub(crate) servers: Vec<ServerSketch>,
     pub(crate) bound: Bound,
@@ -44,6 +45,7 @@ pub struct Sketch {
 impl Drop for Sketch {
     fn drop(self) {
         let Sketch {
+            tick: _,
             names: _,
             servers: _,
             bound: _,
@@ -61,12 +63,19 @@ impl Model for Sketch {
 
     ghost Value = { SketchFile };
 
-    ghost view = { λ k. record { names = map string_bytes k.names.items; servers = k.servers.items; bound = k.bound; backlog = k.backlog; until = k.until; seed = k.seed; sources = k.sources.items } };
+    ghost view = { λ k. record { tick = k.tick; names = map string_bytes k.names.items; servers = k.servers.items; bound = k.bound; backlog = k.backlog; until = k.until; seed = k.seed; sources = k.sources.items } };
 
-    ghost invariant = { λ k. IsSketch (record { names = map string_bytes k.names.items; servers = k.servers.items; bound = k.bound; backlog = k.backlog; until = k.until; seed = k.seed; sources = k.sources.items }) };
+    ghost invariant = { λ k. IsSketch (record { tick = k.tick; names = map string_bytes k.names.items; servers = k.servers.items; bound = k.bound; backlog = k.backlog; until = k.until; seed = k.seed; sources = k.sources.items }) };
 }
 
 impl Sketch {
+    /// Returns the nanoseconds of a tick, if the file says how long it is.
+    pub fn tick(&self) -> Option<u64>
+        ensures { result ≡ self.now.tick }
+    {
+        self.tick
+    }
+
     /// Returns the names of the servers, by number.
     pub fn names(&self) -> &[String]
         ensures value { map string_bytes result.now ≡ self.now.names }

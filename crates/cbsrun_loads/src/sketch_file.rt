@@ -32,18 +32,19 @@ fn has_room(names: &[String]) -> bool
 /// Adds the name and the server of one entry. Refuses a name that another server has, and the 65th server.
 fn add_entry(
     alloc: Global,
+    tick: Option<u64>,
     names: &mut Vec<String>,
     servers: &mut Vec<ServerSketch>,
     entry: &Value,
 ) -> Result<(), FileKind>
     requires { length names.old.items ≡ length servers.old.items }
     ensures servers { Gives OutOfMemory (λ _. sketched_view names.new.items servers.new.items)
-        result (sketched_entry (sketched_view names.old.items servers.old.items)
+        result (sketched_entry tick (sketched_view names.old.items servers.old.items)
         (view entry.now)) }
     ensures named { OnOk result (length names.new.items ≡ length servers.new.items) }
     ensures few { OnOk result (length names.new.items ≤ most_servers) }
 {
-    let one = match sketch_entry(entry) {
+    let one = match sketch_entry(tick, entry) {
         Ok(one) => one,
         Err(kind) => return Err(kind),
     };
@@ -61,10 +62,11 @@ fn add_entry(
 /// Returns the names and the servers of the entries of `server`.
 fn servers_of(
     alloc: Global,
+    tick: Option<u64>,
     entries: &[Value],
 ) -> Result<(Vec<String>, Vec<ServerSketch>), FileFault>
     ensures servers { Gives no_memory (λ s. sketched_view s.0.items s.1.items) result
-        (taken_in sketched_entry 0 (sketched_view [] []) (map view entries.now)) }
+        (taken_in (sketched_entry tick) 0 (sketched_view [] []) (map view entries.now)) }
     ensures named { IfOk result (λ s. length s.0.items ≡ length s.1.items) }
     ensures few { IfOk result (λ s. length s.0.items ≤ most_servers) }
 {
@@ -73,7 +75,7 @@ fn servers_of(
     for (i, entry) in entries.iter().enumerate() {
         at(
             Place::Server(i as u64),
-            add_entry(alloc, &mut names, &mut servers, entry),
+            add_entry(alloc, tick, &mut names, &mut servers, entry),
         )?;
     }
     Ok((names, servers))
@@ -109,9 +111,10 @@ fn sketch_in(alloc: Global, table: &Table) -> Result<Sketch, FileFault>
         Ok(top) => top,
         Err(kind) => return Err(faulty(Place::Top, kind)),
     };
-    let (names, servers) = servers_of(alloc, top.servers)?;
-    let sources = sources_of(alloc, &names, &servers, top.sources)?;
+    let (names, servers) = servers_of(alloc, top.tick, top.servers)?;
+    let sources = sources_of(alloc, top.tick, &names, &servers, top.sources)?;
     Ok(Sketch {
+        tick: top.tick,
         names,
         servers,
         bound: top.bound,

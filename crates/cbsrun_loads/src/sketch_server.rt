@@ -7,9 +7,9 @@ ghost use Rattle.cbsrun_loads.specs.Sketches.{both_or_none, given_by, sketch_ent
 
 use crate::server::name_of;
 use crate::sketch::{Given, ServerSketch};
-use cbsrun_toml_tables::{
-    FileKind, mode_of, optional, optional_integer_at, reservation, table_with, text_at,
-};
+use crate::times::optional_ticks_at;
+use cbsrun_times::Rounding;
+use cbsrun_toml_tables::{FileKind, mode_of, optional, reservation, table_with, text_at};
 use toml::{Table, Value};
 
 /// One server, as its entry gives it.
@@ -44,17 +44,17 @@ fn given_by(budget: Option<i64>, period: Option<i64>) -> Result<Option<Given>, F
     }))
 }
 
-/// Returns the server of one entry. This does not test whether another server has its name.
+/// Returns the server of one entry, in a file with this tick. This does not test whether another server has its name.
 #[tactic(auto, unfolding(crate::specs::Sketches::sketch_entry))]
-pub fn sketch_entry(entry: &Value) -> Result<SketchEntry<'_>, FileKind>
-    ensures { seen sketch_view result ≡ sketch_entry (view entry.now) }
+pub fn sketch_entry(tick: Option<u64>, entry: &Value) -> Result<SketchEntry<'_>, FileKind>
+    ensures { seen sketch_view result ≡ sketch_entry tick (view entry.now) }
 {
     let table = table_with(entry, &["name", "mode"], &["budget", "period"])?;
     both_or_none(table, "budget", "period")?;
     let name = text_at(table, "name")?;
     let mode = text_at(table, "mode")?;
-    let budget = optional_integer_at(table, "budget")?;
-    let period = optional_integer_at(table, "period")?;
+    let budget = optional_ticks_at(tick, Rounding::Up, table, "budget")?;
+    let period = optional_ticks_at(tick, Rounding::Whole, table, "period")?;
     let name = name_of(name)?;
     let mode = mode_of(mode)?;
     let given = given_by(budget, period)?;

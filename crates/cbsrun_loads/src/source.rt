@@ -7,15 +7,17 @@ ghost use Rattle.cbs_rate.specs.Limits.{most_servers};
 ghost use Rattle.cbsrun_toml_tables.specs.Fields.{seen, of_some};
 ghost use Rattle.cbsrun_simulate.specs.declared.terms.SourceTerms.{SourceTerms};
 ghost use Rattle.cbsrun_loads.specs.Loads.{IsSource};
-ghost use Rattle.cbsrun_loads.specs.Sources.{two_numbers, numbers_at, optional_numbers_at, range_within, server_named, period_at, source_fields, due_in_plan, due_within, spelled_by, source_entry, terms_entry, fields_view};
+ghost use Rattle.cbsrun_loads.specs.Sources.{two_numbers, two_ticks, numbers_at, optional_numbers_at, range_within, server_named, period_at, source_fields, due_in_plan, due_within, spelled_by, source_entry, terms_entry, fields_view};
 
+use crate::times::{optional_ticks_at, ticks};
 use cbs_job::MAX_UNITS;
 use cbs_rate::{MAX_PERIOD, Plan};
 use cbs_rules::LIMIT;
 use cbsrun_simulate::{Range, SourceTerms};
+use cbsrun_times::Rounding;
 use cbsrun_toml_tables::{
-    FileKind, items, optional, optional_integer_at, optional_within, pair, present, table_with,
-    text_at, within,
+    FileKind, all_integers, items, optional, optional_integer_at, optional_within, present,
+    table_with, text_at, within,
 };
 use toml::{Table, Value};
 
@@ -31,32 +33,64 @@ struct SourceFields<'a> {
     overrun: Option<Option<(i64, i64)>>,
 }
 
-/// Returns the least and the greatest number of a range. One number stands for both. Returns `None` for an array of
-/// fewer or more than two numbers.
-fn two_numbers(value: &Value) -> Result<Option<(i64, i64)>, FileKind>
-    ensures { result ≡ two_numbers (view value.now) }
+/// Returns two numbers of ticks, or `None` if there are fewer or more of them. Refuses a value of another type.
+fn two_ticks(
+    tick: Option<u64>,
+    rounding: Rounding,
+    values: &[Value],
+) -> Result<Option<(i64, i64)>, FileKind>
+    ensures { result ≡ two_ticks tick rounding (map view values.now) }
 {
-    if let Some(number) = value.as_integer() {
-        return Ok(Some((number, number)));
+    let [first, second] = values else {
+        all_integers(values)?;
+        return Ok(None);
+    };
+    let least = ticks(tick, rounding, first)?;
+    let greatest = ticks(tick, rounding, second)?;
+    Ok(Some((least, greatest)))
+}
+
+/// Returns the least and the greatest number of ticks of a range. One number stands for both. Returns `None` for an array
+/// of fewer or more than two numbers.
+fn two_numbers(
+    tick: Option<u64>,
+    rounding: Rounding,
+    value: &Value,
+) -> Result<Option<(i64, i64)>, FileKind>
+    ensures { result ≡ two_numbers tick rounding (view value.now) }
+{
+    if let Ok(values) = items(value) {
+        return two_ticks(tick, rounding, values);
     }
-    pair(items(value)?)
+    let number = ticks(tick, rounding, value)?;
+    Ok(Some((number, number)))
 }
 
-/// Returns the least and the greatest number of the range at a key.
+/// Returns the least and the greatest number of ticks of the range at a key.
 #[tactic(auto, unfolding(crate::specs::Sources::numbers_at))]
-fn numbers_at(table: &Table, key: &str) -> Result<Option<(i64, i64)>, FileKind>
-    ensures { result ≡ numbers_at key.now (table_view table.now) }
+fn numbers_at(
+    tick: Option<u64>,
+    rounding: Rounding,
+    table: &Table,
+    key: &str,
+) -> Result<Option<(i64, i64)>, FileKind>
+    ensures { result ≡ numbers_at tick rounding key.now (table_view table.now) }
 {
-    two_numbers(present(table, key)?)
+    two_numbers(tick, rounding, present(table, key)?)
 }
 
-/// Returns the least and the greatest number of the range at a key, or `None` if the table lacks the key.
+/// Returns the least and the greatest number of ticks of the range at a key, or `None` if the table lacks the key.
 #[tactic(auto, unfolding(crate::specs::Sources::optional_numbers_at))]
-fn optional_numbers_at(table: &Table, key: &str) -> Result<Option<Option<(i64, i64)>>, FileKind>
-    ensures { result ≡ optional_numbers_at key.now (table_view table.now) }
+fn optional_numbers_at(
+    tick: Option<u64>,
+    rounding: Rounding,
+    table: &Table,
+    key: &str,
+) -> Result<Option<Option<(i64, i64)>>, FileKind>
+    ensures { result ≡ optional_numbers_at tick rounding key.now (table_view table.now) }
 {
     match optional(table, key) {
-        Some(value) => Ok(Some(two_numbers(value)?)),
+        Some(value) => Ok(Some(two_numbers(tick, rounding, value)?)),
         None => Ok(None),
     }
 }
@@ -123,20 +157,21 @@ fn period_at(plan: &Plan, server: u16) -> u64
     }
 }
 
-/// Returns the values of an entry's keys, or the first fault over all of them.
+/// Returns the values of an entry's keys, in a file with this tick, or the first fault over all of them. Work is rounded
+/// up to ticks, and the times between jobs and within which they are wanted are rounded down.
 #[tactic(auto, unfolding(crate::specs::Sources::source_fields))]
-fn source_fields(entry: &Value) -> Result<SourceFields<'_>, FileKind>
-    ensures { seen fields_view result ≡ source_fields (view entry.now) }
+fn source_fields(tick: Option<u64>, entry: &Value) -> Result<SourceFields<'_>, FileKind>
+    ensures { seen fields_view result ≡ source_fields tick (view entry.now) }
 {
     let optional_keys = ["first", "jobs", "within", "overrun"];
     let table = table_with(entry, &["server", "every", "units"], &optional_keys)?;
     let server = text_at(table, "server")?;
-    let first = optional_integer_at(table, "first")?;
-    let every = numbers_at(table, "every")?;
-    let units = numbers_at(table, "units")?;
+    let first = optional_ticks_at(tick, Rounding::Down, table, "first")?;
+    let every = numbers_at(tick, Rounding::Down, table, "every")?;
+    let units = numbers_at(tick, Rounding::Up, table, "units")?;
     let jobs = optional_integer_at(table, "jobs")?;
-    let within = optional_integer_at(table, "within")?;
-    let overrun = optional_numbers_at(table, "overrun")?;
+    let within = optional_ticks_at(tick, Rounding::Down, table, "within")?;
+    let overrun = optional_numbers_at(tick, Rounding::Up, table, "overrun")?;
     Ok(SourceFields {
         server,
         first,
@@ -185,12 +220,12 @@ fn due_within(ticks: u64, terms: SourceTerms) -> SourceTerms
 
 /// Returns the source of one entry, in a file with servers of these names. It may not say within how many ticks its jobs
 /// are to be finished.
-fn terms_entry(names: &[String], entry: &Value) -> Result<SourceTerms, FileKind>
+fn terms_entry(tick: Option<u64>, names: &[String], entry: &Value) -> Result<SourceTerms, FileKind>
     requires { length names.now ≤ most_servers }
-    ensures value { result ≡ terms_entry (map string_bytes names.now) (view entry.now) }
+    ensures value { result ≡ terms_entry tick (map string_bytes names.now) (view entry.now) }
     ensures lawful { IfOk result (λ t. IsSource (length names.now) (due_within 0 t)) }
 {
-    spelled_by(names, source_fields(entry)?)
+    spelled_by(names, source_fields(tick, entry)?)
 }
 
 /// The servers of a file, which say by when jobs are to be finished.
@@ -219,16 +254,17 @@ impl Due for Plan {
 
 /// Returns the source of one entry, in a file with these servers.
 pub fn source_entry<D: Due>(
+    tick: Option<u64>,
     names: &[String],
     servers: &D,
     entry: &Value,
 ) -> Result<SourceTerms, FileKind>
     requires few { length names.now ≤ most_servers }
     requires named { length names.now ≡ D.servers servers.now }
-    ensures value { result ≡ source_entry (map string_bytes names.now) (D.due servers.now)
+    ensures value { result ≡ source_entry tick (map string_bytes names.now) (D.due servers.now)
         (view entry.now) }
     ensures lawful { IfOk result (IsSource (length names.now)) }
 {
-    let terms = terms_entry(names, entry)?;
+    let terms = terms_entry(tick, names, entry)?;
     Ok(due_within(servers.due(&terms), terms))
 }

@@ -8,9 +8,11 @@ ghost use Rattle.cbsrun_toml_tables.specs.Fields.{seen};
 ghost use Rattle.cbsrun_loads.specs.Loads.{most_sources};
 ghost use Rattle.cbsrun_loads.specs.TopTables.{kind_at, typed_values, spelled_by, top_table, typed_view, top_view};
 
+use crate::times::{tick_at, ticks_at};
 use cbs_core::MAX_BACKLOG;
 use cbs_rate::Bound;
 use cbs_rules::LIMIT;
+use cbsrun_times::Rounding;
 use cbsrun_toml_tables::{
     FileKind, bound_of, integer_at, items_at, optional_integer_at, optional_within, pair_at, sized,
     with_keys, within,
@@ -26,6 +28,7 @@ const MAX_SEED: u64 = 9_223_372_036_854_775_807;
 /// The values of the keys of the top table, each of its type.
 #[derive(Clone, Copy)]
 struct TypedValues<'a> {
+    tick: Option<u64>,
     bound: Option<(i64, i64)>,
     backlog: i64,
     until: i64,
@@ -37,6 +40,7 @@ struct TypedValues<'a> {
 /// What the top table spells. The entries of its arrays are not read yet.
 #[derive(Drop)]
 pub struct TopTable<'a> {
+    pub tick: Option<u64>,
     pub bound: Bound,
     pub backlog: u64,
     pub until: u64,
@@ -58,14 +62,16 @@ fn typed_values(table: &Table) -> Result<TypedValues<'_>, FileKind>
     ensures { seen typed_view result ≡ typed_values (table_view table.now) }
 {
     let required = ["load", "bound", "backlog", "until", "server", "source"];
-    with_keys(table, &required, &["seed"])?;
+    with_keys(table, &required, &["seed", "tick"])?;
+    let tick = tick_at(table)?;
     let bound = pair_at(table, "bound")?;
     let backlog = integer_at(table, "backlog")?;
-    let until = integer_at(table, "until")?;
+    let until = ticks_at(tick, Rounding::Up, table, "until")?;
     let seed = optional_integer_at(table, "seed")?;
     let servers = items_at(table, "server")?;
     let sources = items_at(table, "source")?;
     Ok(TypedValues {
+        tick,
         bound,
         backlog,
         until,
@@ -89,6 +95,7 @@ fn spelled_by(values: TypedValues<'_>) -> Result<TopTable<'_>, FileKind>
     let seed = optional_within(0, MAX_SEED, values.seed)?;
     sized(0, MAX_SOURCES, values.sources)?;
     Ok(TopTable {
+        tick: values.tick,
         bound,
         backlog,
         until,

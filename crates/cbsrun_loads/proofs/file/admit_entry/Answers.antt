@@ -10,7 +10,7 @@ use Rattle.cbsrun_loads.proofs.file.admit_entry.Goals as goal
 
 pub returns-then-is_taken-clause-servers : goal.returns-then-is_taken-clause-servers
 returns-then-is_taken-clause-servers c =
-    let spelled : server_entry (view c.args.entry.now) ≡ Ok (server_view c.in-Ok.server) = sym c.in-Ok.ensures in
+    let spelled : server_entry c.args.tick (view c.args.entry.now) ≡ Ok (server_view c.in-Ok.server) = sym c.in-Ok.ensures in
     let name = c.in-Ok.server.name.now in
     let same : list_any (λ n. bytes_eq (string_bytes n) name) c.args.names.now.items ≡ true =
     rw c.deref.ensures.value at (sym c.is_taken.ensures ∙ c.if-is_taken.true) in
@@ -19,7 +19,7 @@ returns-then-is_taken-clause-servers c =
 
 pub returns-in-Err-admit-clause-servers : goal.returns-in-Err-admit-clause-servers
 returns-in-Err-admit-clause-servers c =
-    let spelled : server_entry (view c.args.entry.now) ≡ Ok (server_view c.in-Ok.server) = sym c.in-Ok.ensures in
+    let spelled : server_entry c.args.tick (view c.args.entry.now) ≡ Ok (server_view c.in-Ok.server) = sym c.in-Ok.ensures in
     let name = c.in-Ok.server.name.now in
     let same : list_any (λ n. bytes_eq (string_bytes n) name) c.args.names.now.items ≡ false =
     rw c.deref.ensures.value at (sym c.is_taken.ensures ∙ c.if-is_taken.false) in
@@ -28,7 +28,7 @@ returns-in-Err-admit-clause-servers c =
 
 pub returns-clause-servers : goal.returns-clause-servers
 returns-clause-servers c =
-    let spelled : server_entry (view c.args.entry.now) ≡ Ok (server_view c.in-Ok.server) = sym c.in-Ok.ensures in
+    let spelled : server_entry c.args.tick (view c.args.entry.now) ≡ Ok (server_view c.in-Ok.server) = sym c.in-Ok.ensures in
     let name = c.in-Ok.server.name.now in
     let same : list_any (λ n. bytes_eq (string_bytes n) name) c.args.names.now.items ≡ false =
     rw c.deref.ensures.value at (sym c.is_taken.ensures ∙ c.if-is_taken.false) in

@@ -28,9 +28,11 @@ unfolding load_in
 returns c =
     let top : top_table (table_view c.args.table.now) ≡ Ok (top_view c.in-Ok.top) = sym c.in-Ok.ensures.value in
     let named : Named = record { names = map string_bytes c.in_ok-names.names.items; setup = c.in_ok-names.setup } in
-    let servers : taken_in admitted_entry 0 (record { names = []; setup = no_servers c.in-Ok.top.bound }) (map view c.in-Ok.top.servers.now.items) ≡ Ok named =
+    let servers : taken_in (admitted_entry c.in-Ok.top.tick) 0 (record { names = []; setup = no_servers c.in-Ok.top.bound })
+    (map view c.in-Ok.top.servers.now.items) ≡ Ok named =
     rw c.deref.ensures.value at c.in_ok-names.ensures.servers in
-    let sources : each_from 0 (λ i entry. at (AtSource i) (source_entry (map string_bytes c.in_ok-names.names.items) (due_in_plan c.in_ok-names.setup.plan.rates) entry))
+    let sources : each_from 0 (λ i entry. at (AtSource i)
+    (source_entry c.in-Ok.top.tick (map string_bytes c.in_ok-names.names.items) (due_in_plan c.in_ok-names.setup.plan.rates) entry))
     (map view c.in-Ok.top.sources.now.items) ≡ Ok c.in_ok-sources.sources.items =
     rw (c.deref-2.ensures.value, c.plan.ensures.value, c.deref-3.ensures.value) at c.in_ok-sources.ensures.sources in
     rw (top, servers, sources) refl

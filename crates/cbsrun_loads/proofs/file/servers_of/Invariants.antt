@@ -7,7 +7,7 @@ use Rattle.cbsrun_loads.proofs.file.servers_of.Given as goal
 
 abbrev pub invariant-loop-i : goal.invariant-loop-i
 invariant-loop-i l = record {
-  so_far : taken_in admitted_entry l.i (record { names = map string_bytes l.names.items; setup = l.setup }) (map view (drop l.i l.entries))
-      ≡ taken_in admitted_entry 0 (record { names = []; setup = no_servers l.fn.bound }) (map view l.entries);
+  so_far : taken_in (admitted_entry l.tick) l.i (record { names = map string_bytes l.names.items; setup = l.setup }) (map view (drop l.i l.entries))
+      ≡ taken_in (admitted_entry l.tick) 0 (record { names = []; setup = no_servers l.fn.bound }) (map view l.entries);
   named : length l.names.items ≡ length l.setup.plan.rates;
 }

@@ -19,8 +19,8 @@ returns-in_err-source-clause-sources g c =
     let due = g.D.Due.due c.args.servers.now in
     let p = err_from_is_err_and c.from_residual.result c.from_residual.ensures.1 in
     let fault = rw c.source_entry.ensures.value at (sym c.at.ensures ∙ c.in_err-source.was) in
-    rw (p.1, p.2) (inr (each_from-map view (λ i entry. at (AtSource i) (source_entry names due entry)) 0 c.args.entries.now
-    ∙ ends (λ i v. at (AtSource i) (source_entry names due (view v))) c.loop-i.sources.items i c.args.entries.now v
+    rw (p.1, p.2) (inr (each_from-map view (λ i entry. at (AtSource i) (source_entry c.args.tick names due entry)) 0 c.args.entries.now
+    ∙ ends (λ i v. at (AtSource i) (source_entry c.args.tick names due (view v))) c.loop-i.sources.items i c.args.entries.now v
     c.in_err-source.field-0.0 _ c.loop-i-test.true (rw (← c.index-entries-i.is) fault) c.loop-i.invariant.so_far))
 
 pub loop-i-preserved : goal.loop-i-preserved
@@ -29,7 +29,7 @@ loop-i-preserved g c =
     let v = c.index-entries-i.result in
     let names = map string_bytes c.args.names.now in
     let due = g.D.Due.due c.args.servers.now in
-    let f = λ (i : ℕ) (v : Value). at (AtSource i) (source_entry names due (view v)) in
+    let f = λ (i : ℕ) (v : Value). at (AtSource i) (source_entry c.args.tick names due (view v)) in
     let is : c.source_entry.result ≡ Ok c.in_ok-source.source = at_ok (AtSource i) c.source_entry.result c.in_ok-source.source
     (sym c.at.ensures ∙ c.in_ok-source.was) in
     let next = rw c.source_entry.ensures.value at (sym c.at.ensures ∙ c.in_ok-source.was) in
@@ -45,6 +45,6 @@ pub returns-clause-sources : goal.returns-clause-sources
 returns-clause-sources g c =
     let names = map string_bytes c.args.names.now in
     let due = g.D.Due.due c.args.servers.now in
-    each_from-map view (λ i entry. at (AtSource i) (source_entry names due entry)) 0 c.args.entries.now
-    ∙ is_done (λ i v. at (AtSource i) (source_entry names due (view v))) c.loop-i.sources.items c.loop-i.i c.args.entries.now
+    each_from-map view (λ i entry. at (AtSource i) (source_entry c.args.tick names due entry)) 0 c.args.entries.now
+    ∙ is_done (λ i v. at (AtSource i) (source_entry c.args.tick names due (view v))) c.loop-i.sources.items c.loop-i.i c.args.entries.now
     _ c.loop-i-test.false c.loop-i.invariant.so_far

@@ -11,9 +11,9 @@ use Rattle.cbsrun_loads.proofs.file.sources_of.Given as goal
 
 abbrev pub invariant-loop-i : goal.invariant-loop-i
 invariant-loop-i g l = record {
-  so_far : with_front l.sources.items (each_from l.i (λ i v. at (AtSource i) (source_entry (map string_bytes l.names) (g.D.Due.due l.servers) (view v)))
+  so_far : with_front l.sources.items (each_from l.i (λ i v. at (AtSource i) (source_entry l.tick (map string_bytes l.names) (g.D.Due.due l.servers) (view v)))
       (drop l.i l.entries))
-      ≡ each_from 0 (λ i v. at (AtSource i) (source_entry (map string_bytes l.names) (g.D.Due.due l.servers) (view v))) l.entries;
+      ≡ each_from 0 (λ i v. at (AtSource i) (source_entry l.tick (map string_bytes l.names) (g.D.Due.due l.servers) (view v))) l.entries;
   lawful : All (IsSource (length l.names)) l.sources.items;
   count : length l.sources.items ≡ l.i;
 }

@@ -11,7 +11,7 @@ use Rattle.cbsrun_loads.proofs.sketch_file.add_entry.Goals as goal
 
 pub returns-then-is_taken-clause-servers : goal.returns-then-is_taken-clause-servers
 returns-then-is_taken-clause-servers c =
-    let spelled : sketch_entry (view c.args.entry.now) ≡ Ok (sketch_view c.in-Ok.one) = sym c.in-Ok.ensures in
+    let spelled : sketch_entry c.args.tick (view c.args.entry.now) ≡ Ok (sketch_view c.in-Ok.one) = sym c.in-Ok.ensures in
     let name = c.in-Ok.one.name.now in
     let same : list_any (λ n. bytes_eq (string_bytes n) name) c.args.names.now.items ≡ true =
     rw c.deref.ensures.value at (sym c.is_taken.ensures ∙ c.if-is_taken.true) in
@@ -20,7 +20,7 @@ returns-then-is_taken-clause-servers c =
 
 pub returns-then-not-has_room-clause-servers : goal.returns-then-not-has_room-clause-servers
 returns-then-not-has_room-clause-servers c =
-    let spelled : sketch_entry (view c.args.entry.now) ≡ Ok (sketch_view c.in-Ok.one) = sym c.in-Ok.ensures in
+    let spelled : sketch_entry c.args.tick (view c.args.entry.now) ≡ Ok (sketch_view c.in-Ok.one) = sym c.in-Ok.ensures in
     let name = c.in-Ok.one.name.now in
     let same : list_any (λ n. bytes_eq (string_bytes n) name) c.args.names.now.items ≡ false =
     rw c.deref.ensures.value at (sym c.is_taken.ensures ∙ c.if-is_taken.false) in
@@ -31,7 +31,7 @@ returns-then-not-has_room-clause-servers c =
 
 pub returns-clause-servers : goal.returns-clause-servers
 returns-clause-servers c =
-    let spelled : sketch_entry (view c.args.entry.now) ≡ Ok (sketch_view c.in-Ok.one) = sym c.in-Ok.ensures in
+    let spelled : sketch_entry c.args.tick (view c.args.entry.now) ≡ Ok (sketch_view c.in-Ok.one) = sym c.in-Ok.ensures in
     let name = c.in-Ok.one.name.now in
     let same : list_any (λ n. bytes_eq (string_bytes n) name) c.args.names.now.items ≡ false =
     rw c.deref.ensures.value at (sym c.is_taken.ensures ∙ c.if-is_taken.false) in

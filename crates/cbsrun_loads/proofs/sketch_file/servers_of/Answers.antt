@@ -15,11 +15,11 @@ returns-in_err-at-clause-servers c =
     let so_far : Sketched = record { names = map string_bytes c.loop-i.names.items; servers = c.loop-i.servers.items } in
     let next : Sketched = record { names = map string_bytes c.add_entry.new.names.items; servers = c.add_entry.new.servers.items } in
     let p = err_from_is_err_and c.from_residual.result c.from_residual.ensures.1 in
-    let given = Gives-at (Server i) (λ _. next) c.add_entry.result (sketched_entry so_far (view v)) c.add_entry.ensures.servers in
+    let given = Gives-at (Server i) (λ _. next) c.add_entry.result (sketched_entry c.args.tick so_far (view v)) c.add_entry.ensures.servers in
     let fault = gives_err no_memory (λ _. next) (at (Server i) c.add_entry.result) _ c.in_err-at.field-0.0 given (sym c.at.ensures ∙ c.in_err-at.was) in
     rw (p.1, p.2) (elim fault [
       | inl m ↦ inl m
-      | inr f ↦ inr (taken_ends view sketched_entry i so_far c.args.entries.now v _ c.in_err-at.field-0.0 c.loop-i-test.true
+      | inr f ↦ inr (taken_ends view (sketched_entry c.args.tick) i so_far c.args.entries.now v _ c.in_err-at.field-0.0 c.loop-i-test.true
           (rw (← c.index-entries-i.is) f) c.loop-i.invariant.so_far)
     ])
 
@@ -29,11 +29,11 @@ loop-i-preserved c =
     let v = c.index-entries-i.result in
     let so_far : Sketched = record { names = map string_bytes c.loop-i.names.items; servers = c.loop-i.servers.items } in
     let next : Sketched = record { names = map string_bytes c.add_entry.new.names.items; servers = c.add_entry.new.servers.items } in
-    let given = Gives-at (Server i) (λ _. next) c.add_entry.result (sketched_entry so_far (view v)) c.add_entry.ensures.servers in
+    let given = Gives-at (Server i) (λ _. next) c.add_entry.result (sketched_entry c.args.tick so_far (view v)) c.add_entry.ensures.servers in
     let took = gives_ok no_memory (λ _. next) (at (Server i) c.add_entry.result) _ c.in_ok-at.field-0 given (sym c.at.ensures ∙ c.in_ok-at.was) in
     let is = at_ok (Server i) c.add_entry.result c.in_ok-at.field-0 (sym c.at.ensures ∙ c.in_ok-at.was) in
     record {
-      so_far = taken_on view sketched_entry i so_far next c.args.entries.now v _ c.loop-i-test.true (rw (← c.index-entries-i.is) took)
+      so_far = taken_on view (sketched_entry c.args.tick) i so_far next c.args.entries.now v _ c.loop-i-test.true (rw (← c.index-entries-i.is) took)
           c.loop-i.invariant.so_far;
       named = rw is at c.add_entry.ensures.named;
       few = rw is at c.add_entry.ensures.few;
@@ -41,5 +41,6 @@ loop-i-preserved c =
 
 pub returns-clause-servers : goal.returns-clause-servers
 returns-clause-servers c =
-    taken_done view sketched_entry c.loop-i.i (record { names = map string_bytes c.loop-i.names.items; servers = c.loop-i.servers.items }) c.args.entries.now _
+    taken_done view (sketched_entry c.args.tick) c.loop-i.i
+    (record { names = map string_bytes c.loop-i.names.items; servers = c.loop-i.servers.items }) c.args.entries.now _
     c.loop-i-test.false c.loop-i.invariant.so_far

@@ -26,9 +26,9 @@ unfolding sketch_in
 returns c =
     let top : top_table (table_view c.args.table.now) ≡ Ok (top_view c.in-Ok.top) = sym c.in-Ok.ensures.value in
     let sketched : Sketched = record { names = map string_bytes c.in_ok-names.names.items; servers = c.in_ok-names.servers.items } in
-    let servers : taken_in sketched_entry 0 (record { names = []; servers = [] }) (map view c.in-Ok.top.servers.now.items) ≡ Ok sketched =
+    let servers : taken_in (sketched_entry c.in-Ok.top.tick) 0 (record { names = []; servers = [] }) (map view c.in-Ok.top.servers.now.items) ≡ Ok sketched =
     rw c.deref.ensures.value at c.in_ok-names.ensures.servers in
-    let sources : each_from 0 (λ i entry. at (AtSource i) (source_entry (map string_bytes c.in_ok-names.names.items)
+    let sources : each_from 0 (λ i entry. at (AtSource i) (source_entry c.in-Ok.top.tick (map string_bytes c.in_ok-names.names.items)
     (due_in_sketch c.in_ok-names.servers.items) entry)) (map view c.in-Ok.top.sources.now.items) ≡ Ok c.in_ok-sources.sources.items =
     rw (c.deref-2.ensures.value, c.deref-3.ensures.value) at c.in_ok-sources.ensures.sources in
     rw (top, servers, sources) refl

@@ -1,0 +1,48 @@
+//! Times as text, in milliseconds.
+
+ghost use Rattle.std.specs.Prelude.{◌≡◌, ◌++◌, OnOk, string_bytes};
+ghost use Rattle.cbsrun_times.specs.Texts.{decimals_text, milliseconds_text, part_digits, places};
+
+use itoa::Buffer;
+use std::alloc::AllocError;
+
+/// The nanoseconds of each place after the point of a number of milliseconds.
+const PLACES: [u64; 6] = [100_000, 10_000, 1_000, 100, 10, 1];
+
+/// Appends the digits of a part, place by place, up to the last that is not 0.
+fn append_digits(text: &mut String, part: u64) -> Result<(), AllocError>
+    ensures { OnOk result (string_bytes text.new ≡ string_bytes text.old ++ part_digits places part) }
+{
+    let mut left = part;
+    for place in PLACES {
+        if left == 0 {
+            return Ok(());
+        }
+        text.push_str(Buffer::new().format(left / place))?;
+        left %= place;
+    }
+    Ok(())
+}
+
+/// Appends the decimals of so many nanoseconds as milliseconds, if there are any.
+fn append_decimals(text: &mut String, part: u64) -> Result<(), AllocError>
+    ensures { OnOk result (string_bytes text.new ≡ string_bytes text.old ++ decimals_text part) }
+{
+    if part == 0 {
+        return Ok(());
+    }
+    text.push_str(".")?;
+    append_digits(text, part)
+}
+
+/// Appends the milliseconds of so many ticks, without the unit, by the nanoseconds of a tick. There are as many decimals
+/// as it needs to be exact. The only error is out of memory.
+#[tactic(auto, unfolding(crate::specs::Texts::milliseconds_text))]
+pub fn append_milliseconds(text: &mut String, tick: u64, ticks: u64) -> Result<(), AllocError>
+    ensures { OnOk result (string_bytes text.new ≡ string_bytes text.old
+        ++ milliseconds_text tick ticks) }
+{
+    let nanoseconds = u128::from(tick) * u128::from(ticks);
+    text.push_str(Buffer::new().format(nanoseconds / 1_000_000))?;
+    append_decimals(text, (nanoseconds % 1_000_000) as u64)
+}
