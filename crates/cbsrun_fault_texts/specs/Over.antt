@@ -186,11 +186,11 @@ pub record TellsAlone (bound : Fraction) (rates : List Rate) (text : List ℕ) :
   pub over : IsSplitReason bound rates (error.OverBound server)
   pub told : IsHelp (alone_words server) text
 
--- the text tells a split of all servers, or why there is none; it is empty if an entry spells no reservation
-abbrev pub TellsSplit : Fraction → List Data → List ℕ → Type 0
-TellsSplit bound entries text =
-    (((rates : List Rate) → ¬ (AreReservations entries rates)) × (text ≡ []))
-    ⊎ ((rates : List Rate) × AreReservations entries rates × (TellsParts bound rates entries text ⊎ TellsAlone bound rates text))
+-- the text tells a split of all servers, in a file with this tick, or why there is none; it is empty if an entry spells no reservation
+abbrev pub TellsSplit : Option ℕ → Fraction → List Data → List ℕ → Type 0
+TellsSplit tick bound entries text =
+    (((rates : List Rate) → ¬ (AreReservations tick entries rates)) × (text ≡ []))
+    ⊎ ((rates : List Rate) × AreReservations tick entries rates × (TellsParts bound rates entries text ⊎ TellsAlone bound rates text))
 
 -- ---- The whole
 
@@ -201,7 +201,7 @@ pub record AreHelps (entries : List Data) (refused : Refused) (text : List ℕ) 
   pub on_split : List ℕ
   pub greatest : IsHelpThat (TellsGreatest refused.plan refused.reservation.period) on_budget
   pub least : TellsLeastIfAny refused.plan refused.reservation.budget on_period
-  pub split : TellsSplit refused.plan.bound entries on_split
+  pub split : TellsSplit refused.tick refused.plan.bound entries on_split
   pub bytes : text ≡ on_budget ++ on_period ++ on_split
 
 -- the explanation of a server that takes the plan of those before it over the bound. `IsPlace` is true of the line of

@@ -72,7 +72,7 @@ fn append_missing(page: &mut Page, spot: &Spot<'_>, key: Key) {
 /// Appends the explanation of a value of a wrong type.
 fn append_type_fault(page: &mut Page, spot: &Spot<'_>, key: Key, value: &Value) {
     page.push("error: ");
-    append_wrong_type(page, key, value);
+    append_wrong_type(page, key, value, spot);
     let line = KeyLine::new(page.alloc, spot, key.name, value);
     if let Some(line) = page.accept(line) {
         append_type_lines(page, &line, key, value, spot);

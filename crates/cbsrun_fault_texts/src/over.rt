@@ -356,12 +356,13 @@ fn append_alone(page: &mut Page, server: usize)
     page.push_note(MARGIN, "help", words);
 }
 
-/// Appends a split of all servers over several executors, or that one of them is over the bound even alone. A split has
+/// Appends a split of all servers, in a file with this tick, over several executors, or that one of them is over the bound even alone. A split has
 /// as few executors as the first-fit method finds.
-fn append_split(page: &mut Page, document: Document<'_>, bound: Bound)
-    ensures { AppendsA (TellsSplit bound (map view document.entry.servers.now)) page.old page.new }
+fn append_split(page: &mut Page, document: Document<'_>, tick: Option<u64>, bound: Bound)
+    ensures { AppendsA (TellsSplit tick bound (map view document.entry.servers.now)) page.old
+        page.new }
 {
-    let all = reservations(page.alloc, document.servers);
+    let all = reservations(page.alloc, tick, document.servers);
     let Some(all) = page.accept(all) else {
         return;
     };
@@ -383,7 +384,7 @@ fn append_helps(page: &mut Page, document: Document<'_>, refused: &Refused)
 {
     append_greatest(page, refused);
     append_least(page, refused);
-    append_split(page, document, refused.plan.bound());
+    append_split(page, document, refused.tick, refused.plan.bound());
 }
 
 /// Appends the explanation of a server that takes the plan over its bound.

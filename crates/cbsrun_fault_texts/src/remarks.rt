@@ -5,8 +5,9 @@ ghost use Rattle.std.specs.Prelude.{◌≤◌};
 use crate::key_line::{KeyLine, Marked};
 use crate::notes::{append_brackets_help, append_help, append_servers_note};
 use crate::page::Page;
-use crate::values::{append_allowed, append_from, append_type, period_at};
-use cbsrun_faults::{Key, Spot, Want, nearest_word, server_names, two_numbers};
+use crate::values::{BadTime, append_allowed, append_from, append_type, bad_time};
+use cbsrun_faults::{Key, Kind, Spot, Want, nearest_word, server_names, two_numbers};
+use cbsrun_times::{Rounding, ticks_of};
 use std::alloc::{AllocError, Global};
 use toml::Value;
 
@@ -38,28 +39,44 @@ fn append_span(page: &mut Page, least: u64, greatest: u64) {
 }
 
 /// Appends which numbers a range may have. If its numbers are the wrong way round, appends the right way.
-fn append_range(page: &mut Page, least: u64, greatest: u64, value: &Value) {
-    match two_numbers(value) {
-        Ok((first, second)) if second < first => {
+fn append_range(page: &mut Page, key: Key, value: &Value, spot: &Spot<'_>) {
+    match (key.want, two_numbers(spot.document.tick, key, value)) {
+        (_, Ok((first, second))) if second < first => {
             write!(page, "did you mean [{second}, {first}]?")
         }
-        Ok(_) => append_span(page, least, greatest),
-        Err(_) => page.push("a number or [least, greatest]"),
+        (Want::Range(least, greatest), Ok(_)) => append_span(page, least, greatest),
+        _ => page.push("a number or [least, greatest]"),
+    }
+}
+
+/// Appends in short what is wrong with a time.
+fn append_short_time(page: &mut Page, bad: BadTime) {
+    match bad {
+        BadTime::NoTime => page.push("a number, a space, and a unit: s, ms, us or ns"),
+        BadTime::NotWhole(ticks) => {
+            page.push_number("between ", ticks);
+            page.push_number(" and ", ticks.saturating_add(1));
+            page.push(" ticks");
+        }
+        BadTime::OutOfRange(ticks) => page.push_number("ticks: ", ticks),
     }
 }
 
 /// Appends in short what a value may be.
-fn append_short(page: &mut Page, want: Want, value: &Value, spot: &Spot<'_>) {
-    match want {
+fn append_short(page: &mut Page, key: Key, value: &Value, spot: &Spot<'_>) {
+    if let Some(bad) = bad_time(spot.document.tick, key, value) {
+        return append_short_time(page, bad);
+    }
+    match key.want {
         Want::Number(least, greatest) => append_span(page, least, greatest),
-        Want::Budget => append_span(page, 1, period_at(spot).unwrap_or(1)),
-        Want::Range(least, greatest) => append_range(page, least, greatest, value),
+        Want::Budget => append_span(page, 1, spot.period().unwrap_or(1)),
+        Want::Range(_, _) => append_range(page, key, value, spot),
         Want::ServerName => page.push("no server has this name"),
         Want::Server => match spot.document.servers.len() {
             0 => page.push("there is none"),
             count => append_span(page, 0, count as u64 - 1),
         },
-        _ => append_allowed(page, want, spot),
+        _ => append_allowed(page, key.want, spot),
     }
 }
 
@@ -82,7 +99,7 @@ pub(crate) fn append_outside_line(
     let meant = meant(page.alloc, key.want, value, spot);
     match page.accept(meant) {
         Some(Some(word)) => write!(page, "did you mean {word:?}?"),
-        _ => append_short(page, key.want, value, spot),
+        _ => append_short(page, key, value, spot),
     }
     page.push("\n");
 }
@@ -108,19 +125,25 @@ fn whole_number(alloc: Global, want: Want, value: &Value) -> Result<Option<i64>,
 }
 
 /// Appends what to do about a value of a wrong type.
-fn append_type_remark(page: &mut Page, want: Want, value: &Value, whole: Option<i64>) {
+fn append_type_remark(
+    page: &mut Page,
+    key: Key,
+    value: &Value,
+    whole: Option<i64>,
+    spot: &Spot<'_>,
+) {
     if let Some(number) = whole {
         return write!(page, "as a whole number it is {number}");
     }
     match value {
-        Value::String(word) if wants_number(want) => match word.parse::<i64>() {
+        Value::String(word) if wants_number(key.want) => match word.parse::<i64>() {
             Ok(number) => write!(page, "without the quotes it is the number {number}"),
-            Err(_) => append_type(page, want),
+            Err(_) => append_type(page, key, spot),
         },
-        Value::Integer(number) if matches!(want, Want::Name) => {
+        Value::Integer(number) if matches!(key.want, Want::Name) => {
             write!(page, "in quotes it is the text \"{number}\"")
         }
-        _ => append_type(page, want),
+        _ => append_type(page, key, spot),
     }
 }
 
@@ -129,6 +152,17 @@ fn has_fraction(value: &Value) -> bool {
     match value {
         Value::Array(entries) => entries.iter().any(|entry| entry.is_float()),
         _ => value.is_float(),
+    }
+}
+
+/// Returns whether a value is a time with a unit, in a load that does not say how long a tick is.
+fn is_time_without_tick(key: Key, value: &Value, spot: &Spot<'_>) -> bool {
+    if spot.document.kind != Kind::Load || spot.document.has("tick") || !key.is_time() {
+        return false;
+    }
+    match value {
+        Value::String(text) => ticks_of(1, Rounding::Down, text).is_some(),
+        _ => false,
     }
 }
 
@@ -143,6 +177,11 @@ fn append_type_help(page: &mut Page, margin: usize, key: Key, value: &Value, spo
             page,
             margin,
             "times are whole ticks; if that is too coarse, take a shorter tick",
+        ),
+        _ if is_time_without_tick(key, value, spot) => append_help(
+            page,
+            margin,
+            "say at the top how long a tick is, as tick = \"0.1 ms\"",
         ),
         _ => {}
     }
@@ -160,7 +199,7 @@ pub(crate) fn append_type_lines(
     let whole = page.accept(whole).flatten();
     line.append(page, spot, Marked::Value);
     page.push(" ");
-    append_type_remark(page, key.want, value, whole);
+    append_type_remark(page, key, value, whole, spot);
     page.push("\n");
     if whole.is_none() {
         append_type_help(page, line.margin(), key, value, spot);

@@ -2,12 +2,24 @@
 
 use crate::page::Page;
 use crate::shown::{append_shown, type_phrase};
-use cbsrun_faults::{Key, MAX_NUMBER, Spot, Want, first_bad_unit, period_of, two_numbers};
+use cbsrun_faults::{Key, MAX_NUMBER, Spot, Want, first_bad_unit, two_numbers};
+use cbsrun_times::{Rounding, ticks_of};
 use toml::Value;
 
+/// Returns whether a key may have times in a file, since it has ticks and the file says how long one is.
+pub(crate) fn may_be_time(key: Key, spot: &Spot<'_>) -> bool {
+    spot.document.tick.is_some() && key.rounding().is_some()
+}
+
 /// Appends which type a value must have.
-pub(crate) fn append_type(page: &mut Page, want: Want) {
-    match want {
+pub(crate) fn append_type(page: &mut Page, key: Key, spot: &Spot<'_>) {
+    match key.want {
+        Want::Number(_, _) | Want::Budget if may_be_time(key, spot) => {
+            page.push("a time or a whole number of ticks")
+        }
+        Want::Range(_, _) if may_be_time(key, spot) => {
+            page.push("a time, a whole number of ticks, or [least, greatest]")
+        }
         Want::Number(_, _) | Want::Budget | Want::Server => page.push("a whole number"),
         Want::Range(_, _) => page.push("a whole number or [least, greatest]"),
         Want::Word(words) => page.push_list(words.list(), "\"", " or "),
@@ -16,6 +28,7 @@ pub(crate) fn append_type(page: &mut Page, want: Want) {
         Want::Bound => page.push("two whole numbers, [N, D]"),
         Want::Tables(_) => page.push("an array of tables"),
         Want::Units => page.push("an array of whole numbers"),
+        Want::Tick => page.push("a text, as \"0.1 ms\""),
     }
 }
 
@@ -37,16 +50,11 @@ fn append_numbers(page: &mut Page, least: u64, greatest: u64) {
     }
 }
 
-/// Returns the period of the table in which a value stands.
-pub(crate) fn period_at(spot: &Spot<'_>) -> Option<u64> {
-    period_of(spot.table?)
-}
-
 /// Appends what a value may be.
 pub(crate) fn append_allowed(page: &mut Page, want: Want, spot: &Spot<'_>) {
     match want {
         Want::Number(least, greatest) => append_numbers(page, least, greatest),
-        Want::Budget => match period_at(spot) {
+        Want::Budget => match spot.period() {
             Some(period) => page.push_number("a number from 1 to the period, ", period),
             None => page.push("a number from 1 to the period"),
         },
@@ -65,6 +73,7 @@ pub(crate) fn append_allowed(page: &mut Page, want: Want, spot: &Spot<'_>) {
         }
         Want::Units => page.push_number("1 to 1000000 numbers from 0 to ", MAX_NUMBER),
         Want::Server | Want::ServerName => page.push("a server"),
+        Want::Tick => page.push("a time from \"1 ns\" to \"1 s\""),
     }
 }
 
@@ -98,7 +107,7 @@ fn append_plain(page: &mut Page, key: Key, value: &Value, spot: &Spot<'_>) {
 /// Appends what is wrong with a range.
 fn append_range(page: &mut Page, key: Key, value: &Value, spot: &Spot<'_>) {
     let name = key.name;
-    match two_numbers(value) {
+    match two_numbers(spot.document.tick, key, value) {
         Ok((least, greatest)) if greatest < least => write!(
             page,
             "the least of `{name}`, {least}, is above its greatest, {greatest}"
@@ -122,9 +131,54 @@ fn append_units(page: &mut Page, name: &str, units: &[Value]) {
     }
 }
 
+/// What is wrong with a time that is out of range.
+#[derive(Clone, Copy)]
+pub(crate) enum BadTime {
+    /// It is no time.
+    NoTime,
+    /// It is between this number of ticks and the next.
+    NotWhole(u64),
+    /// It is this number of ticks.
+    OutOfRange(u64),
+}
+
+/// Returns what is wrong with a text at a key that may have a time, in a file with this tick, or `None` if the value is
+/// no text.
+pub(crate) fn bad_time(tick: Option<u64>, key: Key, value: &Value) -> Option<BadTime> {
+    let text = value.as_str()?;
+    let tick = tick?;
+    if let Some(ticks) = ticks_of(tick, key.rounding()?, text) {
+        return Some(BadTime::OutOfRange(ticks));
+    }
+    match ticks_of(tick, Rounding::Down, text) {
+        Some(ticks) if key.rounding() == Some(Rounding::Whole) => Some(BadTime::NotWhole(ticks)),
+        _ => Some(BadTime::NoTime),
+    }
+}
+
+/// Appends what is wrong with a time.
+fn append_bad_time(page: &mut Page, key: Key, value: &Value, bad: BadTime, spot: &Spot<'_>) {
+    append_is(page, key.name, value);
+    match bad {
+        BadTime::NoTime if key.rounding() == Some(Rounding::Up) => {
+            page.push("has to be a time, as \"8 ms\"")
+        }
+        BadTime::NoTime => page.push("has to be a time, as \"33.3 ms\" or \"30 Hz\""),
+        BadTime::NotWhole(_) => page.push("has to be a whole number of ticks"),
+        BadTime::OutOfRange(ticks) => {
+            page.push_number("that is ", ticks);
+            page.push(" ticks; it has to be ");
+            append_allowed(page, key.want, spot);
+        }
+    }
+}
+
 /// Appends what is wrong with a value that is out of range.
 pub(crate) fn append_outside(page: &mut Page, key: Key, value: &Value, spot: &Spot<'_>) {
     let name = key.name;
+    if let Some(bad) = bad_time(spot.document.tick, key, value) {
+        return append_bad_time(page, key, value, bad, spot);
+    }
     match (key.want, value) {
         (Want::Server, _) => {
             append_is(page, name, value);
@@ -150,11 +204,11 @@ fn odd_entry(want: Want, value: &Value) -> Option<&Value> {
 }
 
 /// Appends what is wrong with a value of a wrong type.
-pub(crate) fn append_wrong_type(page: &mut Page, key: Key, value: &Value) {
+pub(crate) fn append_wrong_type(page: &mut Page, key: Key, value: &Value, spot: &Spot<'_>) {
     let (verb, phrase, end) = match odd_entry(key.want, value) {
         Some(entry) => ("has ", type_phrase(entry), " in it"),
         None => ("is ", type_phrase(value), ""),
     };
     page.push_all(&["`", key.name, "` ", verb, phrase, end, ", and has to be "]);
-    append_type(page, key.want);
+    append_type(page, key, spot);
 }

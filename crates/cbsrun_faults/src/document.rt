@@ -4,6 +4,7 @@ ghost use Rattle.std.specs.Prelude.{◌≡◌, map, option_map};
 ghost use Rattle.toml.specs.View.{view, table_view};
 ghost use Rattle.cbsrun_faults.specs.Documents.{kind_of, IsDocument, entries_at, text_of, name_of, name_at};
 
+use crate::refused::tick_in;
 use cbsrun_toml_tables::{items_at, members, optional};
 use std::alloc::{AllocError, Global};
 use toml::{Table, Value};
@@ -43,6 +44,8 @@ pub struct Document<'a> {
     pub kind: Kind,
     /// Its top table.
     pub top: &'a Table,
+    /// The nanoseconds of a tick, if the file says how long it is.
+    pub tick: Option<u64>,
     /// The entries of `server`, or none if `server` is no array.
     pub servers: &'a [Value],
 }
@@ -58,6 +61,7 @@ impl<'a> Document<'a> {
             text,
             kind: kind_of(top),
             top,
+            tick: tick_in(top),
             servers: entries(top, "server"),
         }
     }

@@ -27,7 +27,7 @@ pub enum Finding<'a> {
 /// Returns the fault of a key, or `None` if it has none.
 fn fault_of(key: Key, table: &Table, spot: &Spot<'_>) -> Option<FileKind> {
     match optional(table, key.name) {
-        Some(value) => test(key.want, value, spot).err(),
+        Some(value) => test(key, value, spot).err(),
         None if key.required => Some(FileKind::MissingKey),
         None => None,
     }

@@ -5,6 +5,7 @@ use cbs_job::MAX_UNITS;
 use cbs_rate::{MAX_PERIOD, MAX_RING};
 use cbs_rules::LIMIT;
 use cbsrun_loads::MAX_SOURCES;
+use cbsrun_times::Rounding;
 
 /// The longest advance of a step in a file of format 1, in ticks.
 const OLD_ADVANCE: u64 = 1_000_000_000;
@@ -60,6 +61,8 @@ pub enum Want {
     Tables(u64),
     /// An array of numbers, one for each unit.
     Units,
+    /// The length of a tick.
+    Tick,
 }
 
 /// A key of a table.
@@ -72,14 +75,20 @@ pub struct Key {
 }
 
 impl Key {
+    /// Returns how a time at the key is rounded to ticks, or `None` if the key has no time.
+    pub fn rounding(self) -> Option<Rounding> {
+        match self.name {
+            "units" if matches!(self.want, Want::Units) => None,
+            "units" | "overrun" | "budget" | "until" => Some(Rounding::Up),
+            "first" | "every" | "within" => Some(Rounding::Down),
+            "period" => Some(Rounding::Whole),
+            _ => None,
+        }
+    }
+
     /// Returns whether the key has a time, which is counted in ticks.
     pub fn is_time(self) -> bool {
-        match self.name {
-            "units" => !matches!(self.want, Want::Units),
-            "budget" | "period" | "until" | "first" | "every" | "within" | "overrun" | "ticks" =>
-                true,
-            _ => false,
-        }
+        self.name == "ticks" || self.rounding().is_some()
     }
 }
 
@@ -122,12 +131,13 @@ static FORMAT_TWO: [Key; 6] = [
     key!("step", Want::Tables(MAX_INTEGER)),
 ];
 
-static LOAD: [Key; 7] = [
+static LOAD: [Key; 8] = [
     key!("load", Want::Number(1, 1)),
     key!("bound", Want::Bound),
     key!("backlog", Want::Number(1, MAX_BACKLOG)),
     key!("until", Want::Number(1, LIMIT)),
     optional_key!("seed", Want::Number(0, MAX_INTEGER)),
+    optional_key!("tick", Want::Tick),
     key!("server", Want::Tables(MAX_INTEGER)),
     key!("source", Want::Tables(MAX_SOURCES as u64)),
 ];

@@ -8,6 +8,7 @@ ghost use Rattle.cbsrun_faults.specs.Spots.{label_text, label_of, named_label, F
 
 use crate::document::{Document, Kind, entries, name_of, server_named, text_at};
 use crate::keys::Subject;
+use crate::wants::period_of;
 use cbsrun_toml_tables::Place;
 use std::alloc::{AllocError, Global};
 use std::fmt;
@@ -63,6 +64,11 @@ impl Spot<'_> {
             ≡ label)) }
     {
         self.label.to_string(alloc)
+    }
+
+    /// Returns the period of the table, or `None` if there is no table or it has no period.
+    pub fn period(&self) -> Option<u64> {
+        period_of(self.document.tick, self.table?)
     }
 }
 

@@ -1,10 +1,12 @@
 //! Tests of whether a value is what its key needs.
 
 use crate::document::server_named;
-use crate::keys::Want;
+use crate::keys::{Key, Want};
 use crate::spot::Spot;
 use cbs_job::MAX_UNITS;
 use cbs_rate::MAX_PERIOD;
+use cbsrun_loads::ticks;
+use cbsrun_times::{Rounding, tick_of};
 use cbsrun_toml_tables::{
     FileKind, all_integers, below, bound_of, integer, items, number, optional, pair, sized, text,
     within,
@@ -25,9 +27,18 @@ fn is_name(name: &str) -> bool {
         && bytes.iter().all(|byte| byte.is_ascii_alphanumeric() || *byte == b'-' || *byte == b'_')
 }
 
-/// Returns the period of a table, or `None` if it is no period.
-pub fn period_of(table: &Table) -> Option<u64> {
-    number(1, MAX_PERIOD, optional(table, "period")?).ok()
+/// Returns the period of a table, in a file with this tick, or `None` if it is no period.
+pub(crate) fn period_of(tick: Option<u64>, table: &Table) -> Option<u64> {
+    let period = ticks(tick, Rounding::Whole, optional(table, "period")?).ok()?;
+    within(1, MAX_PERIOD, period).ok()
+}
+
+/// Returns the whole number of a key, in a file with this tick: an integer, or the ticks of a time.
+fn whole(tick: Option<u64>, key: Key, value: &Value) -> Result<i64, FileKind> {
+    match key.rounding() {
+        Some(rounding) => ticks(tick, rounding, value),
+        None => integer(value),
+    }
 }
 
 /// Returns the place, from 1, of the first value that is no number of a unit, or `None` if there is none.
@@ -38,29 +49,30 @@ pub fn first_bad_unit(values: &[Value]) -> Option<usize> {
     Some(place + 1)
 }
 
-/// Returns the least and the greatest number of a range. One number stands for both.
-pub fn two_numbers(value: &Value) -> Result<(i64, i64), FileKind> {
-    if let Some(number) = value.as_integer() {
+/// Returns the least and the greatest number of a range, in a file with this tick. One number stands for both.
+pub fn two_numbers(tick: Option<u64>, key: Key, value: &Value) -> Result<(i64, i64), FileKind> {
+    let Ok(values) = items(value) else {
+        let number = whole(tick, key, value)?;
         return Ok((number, number));
-    }
-    pair(items(value)?)?.ok_or(FileKind::OutOfRange)
+    };
+    let [least, greatest] = values.as_slice() else {
+        all_integers(values)?;
+        return Err(FileKind::OutOfRange);
+    };
+    Ok((whole(tick, key, least)?, whole(tick, key, greatest)?))
 }
 
-/// Tests that a value is a range from `low` to `high`.
-fn test_range(low: u64, high: u64, value: &Value) -> Result<(), FileKind> {
-    let (least, greatest) = two_numbers(value)?;
+/// Tests that two numbers are a range from `low` to `high`.
+fn test_range(low: u64, high: u64, numbers: (i64, i64)) -> Result<(), FileKind> {
+    let (least, greatest) = numbers;
     let least = within(low, high, least)?;
     within(least, high, greatest)?;
     Ok(())
 }
 
-/// Tests that a value is a budget. If the period is no valid period, tests the budget without it.
-fn test_budget(value: &Value, table: Option<&Table>) -> Result<(), FileKind> {
-    let greatest = match table {
-        Some(table) => period_of(table).unwrap_or(u64::MAX),
-        None => u64::MAX,
-    };
-    within(1, greatest, integer(value)?)?;
+/// Tests that a number is a budget. If the period is no valid period, tests the budget without it.
+fn test_budget(budget: i64, period: Option<u64>) -> Result<(), FileKind> {
+    within(1, period.unwrap_or(u64::MAX), budget)?;
     Ok(())
 }
 
@@ -84,9 +96,9 @@ fn hold(holds: bool) -> Result<(), FileKind> {
     }
 }
 
-/// Tests that a value is a number from `least` to `greatest`.
-fn test_number(least: u64, greatest: u64, value: &Value) -> Result<(), FileKind> {
-    number(least, greatest, value)?;
+/// Tests that a number is one from `least` to `greatest`.
+fn test_number(least: u64, greatest: u64, number: i64) -> Result<(), FileKind> {
+    within(least, greatest, number)?;
     Ok(())
 }
 
@@ -122,14 +134,23 @@ fn test_count(most: u64, value: &Value) -> Result<(), FileKind> {
     hold(items(value)?.len() as u64 <= most)
 }
 
+/// Tests that a value is the length of a tick.
+fn test_tick(value: &Value) -> Result<(), FileKind> {
+    hold(tick_of(text(value)?).is_some())
+}
+
 /// Tests that a value of a table is what its key needs.
-pub(crate) fn test(want: Want, value: &Value, spot: &Spot<'_>) -> Result<(), FileKind> {
+pub(crate) fn test(key: Key, value: &Value, spot: &Spot<'_>) -> Result<(), FileKind> {
     let servers = spot.document.servers;
-    match want {
-        Want::Number(least, greatest) => test_number(least, greatest, value),
-        Want::Budget => test_budget(value, spot.table),
+    let tick = spot.document.tick;
+    match key.want {
+        Want::Number(least, greatest) => test_number(least, greatest, whole(tick, key, value)?),
+        Want::Budget => test_budget(whole(tick, key, value)?, spot.period()),
         Want::Server => test_server(servers, value),
-        Want::Range(least, greatest) => test_range(least, greatest, value),
+        Want::Range(least, greatest) => {
+            test_range(least, greatest, two_numbers(tick, key, value)?)
+        }
+        Want::Tick => test_tick(value),
         Want::Word(words) => test_word(words.list(), value),
         Want::Name => test_name(value),
         Want::ServerName => test_server_name(servers, value),

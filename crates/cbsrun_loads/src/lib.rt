@@ -16,4 +16,5 @@ pub use file::{load_in, read_load, read_load_within};
 pub use load::Load;
 pub use sketch::{Given, ServerSketch, Sketch};
 pub use sketch_file::read_sketch_within;
+pub use times::{tick_at, ticks, ticks_at};
 pub use top::MAX_SOURCES;

@@ -10,7 +10,7 @@ use toml::{Table, Value};
 
 /// Returns the nanoseconds of a tick, as the text at the key `tick` tells, or `None` if the table lacks the key. Refuses a
 /// value of another type, and a text that tells no time, one of less than a nanosecond, or one of more than a second.
-pub(crate) fn tick_at(table: &Table) -> Result<Option<u64>, FileKind>
+pub fn tick_at(table: &Table) -> Result<Option<u64>, FileKind>
     ensures { result ≡ tick_at (table_view table.now) }
 {
     let Some(value) = optional(table, "tick") else {
@@ -35,7 +35,7 @@ fn ticks_by(tick: u64, rounding: Rounding, text: &str) -> Result<i64, FileKind>
 
 /// Returns a number of ticks: an integer, or, if the file says how long a tick is, a text that tells a time. Refuses a
 /// value of another type.
-pub(crate) fn ticks(tick: Option<u64>, rounding: Rounding, value: &Value) -> Result<i64, FileKind>
+pub fn ticks(tick: Option<u64>, rounding: Rounding, value: &Value) -> Result<i64, FileKind>
     ensures { result ≡ ticks tick rounding (view value.now) }
 {
     match (tick, value.as_str()) {
@@ -46,7 +46,7 @@ pub(crate) fn ticks(tick: Option<u64>, rounding: Rounding, value: &Value) -> Res
 
 /// Returns the number of ticks at a key, as [`ticks`] reads it. Refuses a table that lacks the key, too.
 #[tactic(auto, unfolding(crate::specs::Times::ticks_at))]
-pub(crate) fn ticks_at(
+pub fn ticks_at(
     tick: Option<u64>,
     rounding: Rounding,
     table: &Table,

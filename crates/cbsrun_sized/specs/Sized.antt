@@ -44,6 +44,7 @@ pub record IsSameServer (k : SketchFile) (f : LoadFile) (s : ℕ) (r : Rate) : T
 pub record IsCompleted (k : SketchFile) (all : Bool) (f : LoadFile) : Type 0 where
   pub count : length f.plan.rates ≡ length k.servers
   pub servers : (s : ℕ) → s < length k.servers → (r : Rate) × IsSameServer k f s r × IsReservationFor k all s r
+  pub tick : f.tick ≡ k.tick
   pub bound : f.plan.bound ≡ k.bound
   pub backlog : f.backlog ≡ k.backlog
   pub until : f.until ≡ k.until

@@ -98,15 +98,17 @@ fn are_same_sources(own: &[SourceTerms], others: &[SourceTerms]) -> bool
     true
 }
 
-/// Returns whether a load has the bound, the backlog, the end, the seed and the sources of a sketch.
+/// Returns whether a load has the tick, the bound, the backlog, the end, the seed and the sources of a sketch.
 fn is_same_beside(load: &Load, sketch: &Sketch) -> bool
+    ensures tick { result ≡ true → load.now.tick ≡ sketch.now.tick }
     ensures bound { result ≡ true → load.now.plan.bound ≡ sketch.now.bound }
     ensures backlog { result ≡ true → load.now.backlog ≡ sketch.now.backlog }
     ensures until { result ≡ true → load.now.until ≡ sketch.now.until }
     ensures seed { result ≡ true → load.now.seed ≡ sketch.now.seed }
     ensures sources { result ≡ true → load.now.sources ≡ sketch.now.sources }
 {
-    load.plan().bound() == sketch.bound()
+    load.tick() == sketch.tick()
+        && load.plan().bound() == sketch.bound()
         && load.backlog() == sketch.backlog()
         && load.until() == sketch.until()
         && load.seed() == sketch.seed()

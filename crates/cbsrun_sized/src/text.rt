@@ -7,6 +7,7 @@ use cbsrun_loads::Sketch;
 use cbsrun_proposals::Proposal;
 use cbsrun_simulate::{Range, SourceTerms};
 use cbsrun_text::{append_pair, mode_word};
+use cbsrun_times::append_milliseconds;
 use std::alloc::{AllocError, Global};
 
 /// Appends a line with a key and a number.
@@ -16,14 +17,51 @@ fn append_number(text: &mut String, key: &str, number: u64) -> Result<(), AllocE
     text.push_str("\n")
 }
 
-/// Appends a line with a key and a range: one number, or the least and the greatest.
-fn append_range(text: &mut String, key: &str, range: Range) -> Result<(), AllocError> {
+/// Returns whether a number of ticks can be written as milliseconds: these are less than 10^9.
+fn is_short(tick: u64, ticks: u64) -> bool {
+    u128::from(tick) * u128::from(ticks) < 1_000_000_000_000_000
+}
+
+/// Appends a number of ticks: as a time, if the file says how long a tick is and the time is short enough for a file.
+fn append_ticks(text: &mut String, tick: Option<u64>, ticks: u64) -> Result<(), AllocError> {
+    match tick {
+        Some(tick) if is_short(tick, ticks) => {
+            text.push_str("\"")?;
+            append_milliseconds(text, tick, ticks)?;
+            text.push_str(" ms\"")
+        }
+        _ => append_pair(text, "", ticks),
+    }
+}
+
+/// Appends a line with a key and a number of ticks.
+fn append_time(
+    text: &mut String,
+    key: &str,
+    tick: Option<u64>,
+    ticks: u64,
+) -> Result<(), AllocError> {
+    text.push_str(key)?;
+    text.push_str(" = ")?;
+    append_ticks(text, tick, ticks)?;
+    text.push_str("\n")
+}
+
+/// Appends a line with a key and a range of ticks: one number, or the least and the greatest.
+fn append_range(
+    text: &mut String,
+    key: &str,
+    tick: Option<u64>,
+    range: Range,
+) -> Result<(), AllocError> {
     if range.least() == range.greatest() {
-        return append_number(text, key, range.least());
+        return append_time(text, key, tick, range.least());
     }
     text.push_str(key)?;
-    append_pair(text, " = [", range.least())?;
-    append_pair(text, ", ", range.greatest())?;
+    text.push_str(" = [")?;
+    append_ticks(text, tick, range.least())?;
+    text.push_str(", ")?;
+    append_ticks(text, tick, range.greatest())?;
     text.push_str("]\n")
 }
 
@@ -38,12 +76,17 @@ fn append_word(text: &mut String, key: &str, word: &str) -> Result<(), AllocErro
 /// Appends the keys of the top table that are no arrays of tables.
 fn append_top(text: &mut String, sketch: &Sketch) -> Result<(), AllocError> {
     text.push_str("load = 1\n")?;
+    if let Some(tick) = sketch.tick() {
+        text.push_str("tick = \"")?;
+        append_milliseconds(text, tick, 1)?;
+        text.push_str(" ms\"\n")?;
+    }
     let bound = sketch.bound();
     append_pair(text, "bound = [", bound.num())?;
     append_pair(text, ", ", bound.den())?;
     text.push_str("]\n")?;
     append_number(text, "backlog", sketch.backlog())?;
-    append_number(text, "until", sketch.until())?;
+    append_time(text, "until", sketch.tick(), sketch.until())?;
     append_number(text, "seed", sketch.seed())
 }
 
@@ -64,8 +107,8 @@ fn append_server(
     if given_in(sketch, all, server).is_none() {
         text.push_str("# proposed:\n")?;
     }
-    append_number(text, "budget", reservation.budget)?;
-    append_number(text, "period", reservation.period)
+    append_time(text, "budget", sketch.tick(), reservation.budget)?;
+    append_time(text, "period", sketch.tick(), reservation.period)
 }
 
 /// Appends the servers.
@@ -85,36 +128,45 @@ fn append_servers(
 }
 
 /// Appends the keys of a source that may be left out, unless they say what holds without them.
-fn append_optional(text: &mut String, terms: &SourceTerms) -> Result<(), AllocError> {
+fn append_optional(
+    text: &mut String,
+    tick: Option<u64>,
+    terms: &SourceTerms,
+) -> Result<(), AllocError> {
     if terms.first > 0 {
-        append_number(text, "first", terms.first)?;
+        append_time(text, "first", tick, terms.first)?;
     }
     if let Some(jobs) = terms.jobs {
         append_number(text, "jobs", jobs)?;
     }
     if let Some(within) = terms.within {
-        append_number(text, "within", within)?;
+        append_time(text, "within", tick, within)?;
     }
     if terms.overrun.greatest() > 0 {
-        append_range(text, "overrun", terms.overrun)?;
+        append_range(text, "overrun", tick, terms.overrun)?;
     }
     Ok(())
 }
 
 /// Appends a source for a server of this name.
-fn append_source(text: &mut String, name: &str, terms: &SourceTerms) -> Result<(), AllocError> {
+fn append_source(
+    text: &mut String,
+    tick: Option<u64>,
+    name: &str,
+    terms: &SourceTerms,
+) -> Result<(), AllocError> {
     text.push_str("\n[[source]]\n")?;
     append_word(text, "server", name)?;
-    append_range(text, "every", terms.every)?;
-    append_range(text, "units", terms.units)?;
-    append_optional(text, terms)
+    append_range(text, "every", tick, terms.every)?;
+    append_range(text, "units", tick, terms.units)?;
+    append_optional(text, tick, terms)
 }
 
 /// Appends the sources.
 fn append_sources(text: &mut String, sketch: &Sketch) -> Result<(), AllocError> {
     for terms in sketch.sources() {
         let name = &sketch.names()[usize::from(terms.server)];
-        append_source(text, name, terms)?;
+        append_source(text, sketch.tick(), name, terms)?;
     }
     Ok(())
 }

@@ -12,7 +12,7 @@ returns c =
     let entries = map view c.args.document.servers.now in
     let Greatest = IsHelpThat (TellsGreatest plan rate.period) in
     let Least = TellsLeastIfAny plan rate.budget in
-    let Split = TellsSplit plan.bound entries in
+    let Split = TellsSplit c.args.refused.now.tick plan.bound entries in
     let Two = λ (t : List ℕ). (x : List ℕ) × (y : List ℕ) × Least x × Split y × (t ≡ x ++ y) in
     both c.args.page.now c.append_greatest.new.page c.append_split.new.page Greatest Two (AreHelps entries c.args.refused.now) c.append_greatest.ensures
     (both c.append_greatest.new.page c.append_least.new.page c.append_split.new.page Least Split Two c.append_least.ensures

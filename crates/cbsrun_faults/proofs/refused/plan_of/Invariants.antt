@@ -7,4 +7,4 @@ use Rattle.cbsrun_faults.proofs.refused.plan_of.Given as goal
 -- what is left to admit, from here on, ends as all of them do from the start
 abbrev pub invariant-loop-entry : goal.invariant-loop-entry
 invariant-loop-entry l =
-    (plan_from (Some l.plan) (map view (drop l.entry-index l.servers)) ≡ plan_of l.fn.bound (map view l.servers)) × (l.plan.bound ≡ l.fn.bound)
+    (plan_from l.tick (Some l.plan) (map view (drop l.entry-index l.servers)) ≡ plan_of l.tick l.fn.bound (map view l.servers)) × (l.plan.bound ≡ l.fn.bound)

@@ -5,5 +5,5 @@ use Rattle.cbsrun_faults.proofs.refused.reservations.Goals as goal
 
 pub returns-in_default : goal.returns-in_default
 returns-in_default c =
-    none_spelled view c.args.servers.now c.loop-entry.entry-index c.entry-item.result c.in_default.field-0 c.loop-entry-test.true c.entry-item.is
+    none_spelled c.args.tick view c.args.servers.now c.loop-entry.entry-index c.entry-item.result c.in_default.field-0 c.loop-entry-test.true c.entry-item.is
     (sym c.reservation_of.ensures ∙ c.in_default.is)

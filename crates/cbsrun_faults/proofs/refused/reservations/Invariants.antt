@@ -5,4 +5,4 @@ use Rattle.cbsrun_faults.specs.Refused.{AreReservations}
 use Rattle.cbsrun_faults.proofs.refused.reservations.Given as goal
 
 abbrev pub invariant-loop-entry : goal.invariant-loop-entry
-invariant-loop-entry l = AreReservations (map view (take l.entry-index l.servers)) l.all.items
+invariant-loop-entry l = AreReservations l.tick (map view (take l.entry-index l.servers)) l.all.items
