@@ -18,16 +18,16 @@ use Rattle.cbsrun_check_text.specs.Tables.{server_row, row_at, source_row, row_o
 use Rattle.cbsrun_check_text.proofs.Rows.{flat_more}
 
 -- the row of a server, by its parts
-pub row_is : (names : List (List ℕ)) (modes : List Mode) (rates : List Rate) (budgets : List ℕ) (s : ℕ) (name : List ℕ) (mode : Mode) (rate : Rate)
+pub row_is : (tick : Option ℕ) (names : List (List ℕ)) (modes : List Mode) (rates : List Rate) (budgets : List ℕ) (s : ℕ) (name : List ℕ) (mode : Mode) (rate : Rate)
     (greatest : ℕ)
     → get_or names s [] ≡ name → get_or modes s Soft ≡ mode → rate_at rates s ≡ rate → get_or budgets s 0 ≡ greatest
-    → row_at names modes rates budgets s ≡ server_row name mode rate greatest
-row_is names modes rates budgets s name mode rate greatest e f g h = rw (e, f, g, h) refl
+    → row_at tick names modes rates budgets s ≡ server_row tick name mode rate greatest
+row_is tick names modes rates budgets s name mode rate greatest e f g h = rw (e, f, g, h) refl
 
 -- the note of a server, by its parts
 pub note_is : (f : LoadFile) (loads : List ServerLoad) (s : ℕ) (name : List ℕ) (rate : Rate) (within : Option ℕ) (load : ServerLoad)
     → get_or f.names s [] ≡ name → rate_at f.plan.rates s ≡ rate → within ≡ least_within f.sources s → get_or loads s no_load ≡ load
-    → note_at f loads s ≡ note_text name rate f.backlog within load
+    → note_at f loads s ≡ note_text f.tick name rate f.backlog within load
 note_is f loads s name rate within load e r w g = rw (e, r, w, g) refl
 
 -- a name that was read at a place
@@ -37,17 +37,17 @@ name_is f xs i j x name lt e is n = get_or-map f xs j x [] lt ∙ (ap f (sym (rw
 
 -- the notes with that of one more server
 pub note_more : (f : LoadFile) (loads : List ServerLoad) (s : ℕ) (old new name : List ℕ) (rate : Rate) (within : Option ℕ) (load : ServerLoad)
-    → new ≡ old ++ note_text name rate f.backlog within load → old ≡ flat_map (note_at f loads) (range_with_len 0 s)
+    → new ≡ old ++ note_text f.tick name rate f.backlog within load → old ≡ flat_map (note_at f loads) (range_with_len 0 s)
     → get_or f.names s [] ≡ name → rate_at f.plan.rates s ≡ rate → within ≡ least_within f.sources s → get_or loads s no_load ≡ load
     → new ≡ flat_map (note_at f loads) (range_with_len 0 (s + 1))
 note_more f loads s old new name rate within load wrote so_far e r w g =
     wrote ∙ rw (so_far, ← (note_is f loads s name rate within load e r w g)) (sym (flat_more (note_at f loads) s))
 
 -- the row of a source, by its parts
-pub source_row_is : (names : List (List ℕ)) (rates : List Rate) (loads : List ServerLoad) (t : SourceTerms) (name : List ℕ) (rate : Rate) (load : ServerLoad)
+pub source_row_is : (tick : Option ℕ) (names : List (List ℕ)) (rates : List Rate) (loads : List ServerLoad) (t : SourceTerms) (name : List ℕ) (rate : Rate) (load : ServerLoad)
     → get_or names t.server [] ≡ name → rate_at rates t.server ≡ rate → get_or loads t.server no_load ≡ load
-    → row_of names rates loads t ≡ source_row name rate load.promised t
-source_row_is names rates loads t name rate load e f g = rw (e, f, g) refl
+    → row_of tick names rates loads t ≡ source_row tick name rate load.promised t
+source_row_is tick names rates loads t name rate load e f g = rw (e, f, g) refl
 
 -- what a text is after a last word is pushed
 pub pushed : (r : Result (Unit {0}) AllocError) (new old word whole : List ℕ) → new ≡ (if is_ok r then old ++ word else old) → old ++ word ≡ whole

@@ -1,5 +1,6 @@
 -- What the cells of the tables show.
-use Rattle.std.specs.Prelude.{Bool, false, ℕ, List, ◌++◌, codes, decimal}
+use Rattle.std.specs.Prelude.{Bool, false, ℕ, List, ◌++◌, codes}
+use Rattle.cbsrun_times.specs.Texts.{amount_text, time_text}
 use Rattle.cbsrun_text.specs.Columns.{CellText, marked_if}
 use Rattle.cbsrun_check_text.specs.Fractions.{fraction_text, percent_text}
 use Rattle.cbsrun_check_text.specs.declared.cells.Shown.{Shown}
@@ -8,10 +9,10 @@ use Rattle.cbsrun_check_text.specs.declared.cells.Shown.TheVariants as shown
 -- the text of a cell
 abbrev pub shown_text : Shown → List ℕ
 shown_text (shown.Word word) = word.now
-shown_text (shown.Number number) = decimal number
-shown_text (shown.Range least greatest) = decimal least ++ codes ".." ++ decimal greatest
-shown_text (shown.InTime time) = codes "yes, by " ++ decimal time
-shown_text (shown.TooLate time) = codes "no, by " ++ decimal time
+shown_text (shown.Time tick ticks) = time_text tick ticks
+shown_text (shown.Range tick least greatest) = amount_text tick least ++ codes ".." ++ time_text tick greatest
+shown_text (shown.InTime tick ticks) = codes "yes, by " ++ time_text tick ticks
+shown_text (shown.TooLate tick ticks) = codes "no, by " ++ time_text tick ticks
 shown_text (shown.Fraction share) = fraction_text share.part share.whole
 shown_text (shown.MarkedFraction share _) = fraction_text share.part share.whole
 shown_text (shown.Percent share) = percent_text share.part share.whole

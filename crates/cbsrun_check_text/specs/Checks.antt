@@ -1,5 +1,5 @@
 -- The text about a file with no fault.
-use Rattle.std.specs.Prelude.{ℕ, Bool, eqb, ltb, if◌then◌else◌, List, [], ◌++◌, codes, decimal, ◌≡◌, ◌+◌, ◌*◌, length, map, Some, None, IfSome}
+use Rattle.std.specs.Prelude.{ℕ, Bool, eqb, ltb, if◌then◌else◌, List, [], ◌++◌, codes, decimal, ◌≡◌, ◌+◌, ◌*◌, length, map, Option, Some, None, IfSome}
 use Rattle.std.specs.List.{list_any, range_with_len}
 use Rattle.cbsrun_loads.specs.Loads.{LoadFile}
 use Rattle.cbsrun_simulate.specs.declared.terms.SourceTerms.{SourceTerms}
@@ -12,16 +12,21 @@ use Rattle.cbsrun_sizing.specs.Budgets.{AreGreatest, left_over, reserved}
 use Rattle.cbsrun_sizing.specs.ServerLoads.{AreServerLoads}
 use Rattle.cbsrun_sizing.specs.declared.server_load.ServerLoad.{ServerLoad}
 use Rattle.cbsrun_text.specs.Columns.{columns_text}
+use Rattle.cbsrun_times.specs.Texts.{ticks_text, time_text}
 use Rattle.cbsrun_check_text.specs.Fractions.{fraction_text}
 use Rattle.cbsrun_check_text.specs.Notes.{notes_text, set_off}
 use Rattle.cbsrun_check_text.specs.Tables.{servers_table, sources_text}
 
+-- a number of ticks in a sentence, in which one is no more than one
+abbrev pub count_text : Option ℕ → ℕ → List ℕ
+count_text None n = if eqb n 1 then codes "1 tick" else ticks_text None n
+count_text (Some tick) n = ticks_text (Some tick) n
+
 -- overruns can make servers late by at most this many ticks
-unfoldable pub late_by_text : ℕ → List ℕ
-late_by_text n =
+unfoldable pub late_by_text : Option ℕ → ℕ → List ℕ
+late_by_text tick n =
     if eqb n 0 then codes "Overruns make no server late.\n"
-    else if eqb n 1 then codes "Units that overrun make a server late by at most 1 tick.\n"
-    else codes "Units that overrun make a server late by at most " ++ decimal n ++ codes " ticks.\n"
+    else codes "Units that overrun make a server late by at most " ++ count_text tick n ++ codes ".\n"
 
 -- units of a source may overrun
 abbrev pub is_overrunning : List SourceTerms → Bool
@@ -44,7 +49,7 @@ recovery_text f = elim (recovery f) [
 abbrev pub lateness_text : LoadFile → List ℕ
 lateness_text f =
     if is_overrunning f.sources
-    then codes "\n" ++ late_by_text (greatest_delay f) ++ (if eqb (greatest_delay f) 0 then [] else recovery_text f)
+    then codes "\n" ++ late_by_text f.tick (greatest_delay f) ++ (if eqb (greatest_delay f) 0 then [] else recovery_text f)
     else []
 
 -- the first line: that the servers fit, what share of the time they have reserved, and what share is left under the
@@ -56,20 +61,27 @@ fits_text plan =
     ++ codes "/" ++ decimal plan.bound.den ++ codes "\n"
 
 -- after how many ticks all periods begin together again
-unfoldable pub periods_text : ℕ → List ℕ
-periods_text ticks =
+abbrev pub every_text : ℕ → List ℕ
+every_text ticks =
     if eqb ticks 1 then codes "The periods come together every tick.\n"
     else codes "The periods come together every " ++ decimal ticks ++ codes " ticks.\n"
 
+-- the same in milliseconds, and how long a tick is, if that is known
+unfoldable pub periods_text : Option ℕ → ℕ → List ℕ
+periods_text None ticks = every_text ticks
+periods_text (Some tick) ticks =
+    codes "The periods come together every " ++ time_text (Some tick) ticks ++ codes ". A tick is " ++ time_text (Some tick) 1 ++ codes ".\n"
+
 -- the text about servers with these names, modes, rates and greatest budgets
-unfoldable pub plan_text : List (List ℕ) → List Mode → Planned → List ℕ → List ℕ
-plan_text names modes plan budgets =
-    fits_text plan ++ codes "\n" ++ columns_text (servers_table names modes plan.rates budgets) ++ codes "\n" ++ periods_text (common_multiple plan.rates)
+unfoldable pub plan_text : Option ℕ → List (List ℕ) → List Mode → Planned → List ℕ → List ℕ
+plan_text tick names modes plan budgets =
+    fits_text plan ++ codes "\n" ++ columns_text (servers_table tick names modes plan.rates budgets) ++ codes "\n"
+    ++ periods_text tick (common_multiple plan.rates)
 
 -- the text about a load, by the greatest budgets of its servers and the figures of their sources
 abbrev pub load_text : LoadFile → List ℕ → List ServerLoad → List ℕ
 load_text f budgets loads =
-    plan_text f.names f.modes f.plan budgets ++ sources_text f.names f.plan.rates loads f.sources ++ lateness_text f
+    plan_text f.tick f.names f.modes f.plan budgets ++ sources_text f.tick f.names f.plan.rates loads f.sources ++ lateness_text f
     ++ set_off (notes_text f loads)
 
 -- the names of servers that have no names of their own
@@ -85,7 +97,7 @@ pub record IsPlanText (plan : Planned) (modes : List Mode) (text : List ℕ) : T
   pub budgets : List ℕ
   pub greatest : AreGreatest plan (length plan.rates) budgets
   pub split : IsSplit plan
-  pub text_is : text ≡ plan_text (numbered (length plan.rates)) modes plan budgets
+  pub text_is : text ≡ plan_text None (numbered (length plan.rates)) modes plan budgets
 
 -- the text about a load, with the greatest budget of each server, the demand of its sources, and what is promised for
 -- them. No server is ever later than the text says, and what one unit overruns is made up as soon as it says

@@ -12,9 +12,9 @@ use Rattle.cbsrun_proposals.specs.declared.remedy.Remedy.{Remedy}
 use Rattle.cbsrun_sizing.specs.ServerLoads.{least_within, no_load}
 use Rattle.cbsrun_sizing.specs.declared.asked.Asked.{Asked}
 use Rattle.cbsrun_sizing.specs.declared.server_load.ServerLoad.{ServerLoad}
-use Rattle.cbsrun_text.specs.Numbers.{number_text}
+use Rattle.cbsrun_times.specs.Texts.{time_text, ticks_text}
 use Rattle.cbsrun_check_text.specs.Fractions.{fraction_text}
-use Rattle.cbsrun_check_text.specs.Tables.{name_at}
+use Rattle.cbsrun_check_text.specs.Tables.{name_at, optional_text}
 
 -- the demand is a share of a span
 pub record IsSummed (a : Asked) : Type 0 where
@@ -22,26 +22,27 @@ pub record IsSummed (a : Asked) : Type 0 where
   pub coarse : a.of ≤ greatest_common_multiple
 
 -- jobs are finished within so many ticks, and within so many is wanted
-unfoldable pub late_text : ℕ → Option ℕ → List ℕ
-late_text time within = codes "its jobs are finished within " ++ decimal time ++ codes " ticks, and " ++ number_text within ++ codes " is wanted"
+unfoldable pub late_text : Option ℕ → ℕ → Option ℕ → List ℕ
+late_text tick time within =
+    codes "its jobs are finished within " ++ ticks_text tick time ++ codes ", and " ++ optional_text tick within ++ codes " is wanted"
 
 -- so many jobs may be unfinished at once, and the backlog holds so many
 unfoldable pub unfinished_text : ℕ → ℕ → List ℕ
 unfinished_text needed backlog = decimal needed ++ codes " of its jobs may be unfinished at once, and the backlog is " ++ decimal backlog
 
 -- why the jobs of a server are not promised in time: they are finished too late, or nothing is promised for a reason
-abbrev pub why_text : ℕ → Option ℕ → Result ℕ NotPromised → List ℕ
-why_text backlog within (Ok time) = late_text time within
-why_text backlog within (Err why.AsksTooMuch) = codes "its jobs may come faster than they are finished"
-why_text backlog within (Err (why.BacklogTooSmall needed)) = unfinished_text needed backlog
-why_text backlog within (Err why.SharedOverrun) = codes "a unit may overrun, and it has several sources"
-why_text backlog within (Err why.LateOverrun) = codes "a unit may overrun, and a job may not be finished when the next comes"
-why_text backlog within (Err why.BeyondLimits) = codes "its sources are beyond the limits"
+abbrev pub why_text : Option ℕ → ℕ → Option ℕ → Result ℕ NotPromised → List ℕ
+why_text tick backlog within (Ok time) = late_text tick time within
+why_text tick backlog within (Err why.AsksTooMuch) = codes "its jobs may come faster than they are finished"
+why_text tick backlog within (Err (why.BacklogTooSmall needed)) = unfinished_text needed backlog
+why_text tick backlog within (Err why.SharedOverrun) = codes "a unit may overrun, and it has several sources"
+why_text tick backlog within (Err why.LateOverrun) = codes "a unit may overrun, and a job may not be finished when the next comes"
+why_text tick backlog within (Err why.BeyondLimits) = codes "its sources are beyond the limits"
 
 -- the line that says so of a server
-unfoldable pub reason_text : List ℕ → ℕ → Option ℕ → Result ℕ NotPromised → List ℕ
-reason_text name backlog within promised =
-    codes "note: " ++ name ++ codes " is not promised: " ++ why_text backlog within promised ++ codes "\n"
+unfoldable pub reason_text : Option ℕ → List ℕ → ℕ → Option ℕ → Result ℕ NotPromised → List ℕ
+reason_text tick name backlog within promised =
+    codes "note: " ++ name ++ codes " is not promised: " ++ why_text tick backlog within promised ++ codes "\n"
 
 -- what the sources may ask for, and what the server has
 unfoldable pub demand_text : Rate → Asked → List ℕ
@@ -59,29 +60,30 @@ backlog_text None = []
 backlog_text (Some n) = codes "      a backlog of " ++ decimal n ++ codes " would do\n"
 
 -- whether a budget fits, if there is room for so much at its period
-unfoldable pub fit_text : ℕ → ℕ → List ℕ
-fit_text budget room = if leb budget room then codes ", and fits\n" else codes ", but at most " ++ decimal room ++ codes " fits\n"
+unfoldable pub fit_text : Option ℕ → ℕ → ℕ → List ℕ
+fit_text tick budget room =
+    if leb budget room then codes ", and fits\n" else codes ", but at most " ++ time_text tick room ++ codes " fits\n"
 
 -- a reservation that would do, and whether it fits
-unfoldable pub reservation_text : Option Proposal → ℕ → List ℕ
-reservation_text None room = codes "      no reservation that was tried would do\n"
-reservation_text (Some r) room =
-    codes "      " ++ decimal r.budget ++ codes " in every " ++ decimal r.period ++ codes " would do" ++ fit_text r.budget room
+unfoldable pub reservation_text : Option ℕ → Option Proposal → ℕ → List ℕ
+reservation_text tick None room = codes "      no reservation that was tried would do\n"
+reservation_text tick (Some r) room =
+    codes "      " ++ time_text tick r.budget ++ codes " in every " ++ time_text tick r.period ++ codes " would do" ++ fit_text tick r.budget room
 
 -- what would do
-unfoldable pub remedy_text : Remedy → ℕ → List ℕ
-remedy_text m room = backlog_text m.backlog ++ reservation_text m.reservation room
+unfoldable pub remedy_text : Option ℕ → Remedy → ℕ → List ℕ
+remedy_text tick m room = backlog_text m.backlog ++ reservation_text tick m.reservation room
 
 -- the note of a server, if a remedy is needed
-unfoldable pub note_text : List ℕ → Rate → ℕ → Option ℕ → ServerLoad → List ℕ
-note_text name rate backlog within l = elim l.remedy [
+unfoldable pub note_text : Option ℕ → List ℕ → Rate → ℕ → Option ℕ → ServerLoad → List ℕ
+note_text tick name rate backlog within l = elim l.remedy [
   | None ↦ []
-  | Some m ↦ reason_text name backlog within l.promised ++ asked_text rate l.promised l.asked ++ remedy_text m l.room
+  | Some m ↦ reason_text tick name backlog within l.promised ++ asked_text rate l.promised l.asked ++ remedy_text tick m l.room
 ]
 
 -- the note of server s
 abbrev pub note_at : LoadFile → List ServerLoad → ℕ → List ℕ
-note_at f loads s = note_text (name_at f.names s) (rate_at f.plan.rates s) f.backlog (least_within f.sources s) (get_or loads s no_load)
+note_at f loads s = note_text f.tick (name_at f.names s) (rate_at f.plan.rates s) f.backlog (least_within f.sources s) (get_or loads s no_load)
 
 -- the notes of all servers
 abbrev pub notes_text : LoadFile → List ServerLoad → List ℕ

@@ -1,5 +1,5 @@
 -- The tables of servers and of sources.
-use Rattle.std.specs.Prelude.{ℕ, List, [], ◌∷◌, ◌++◌, codes, decimal, get_or, length, map, ◌*◌, Bool, eqb, ltb, if◌then◌else◌, Option, Some, None, Result, Ok, Err, ◌+◌}
+use Rattle.std.specs.Prelude.{ℕ, List, [], ◌∷◌, ◌++◌, codes, get_or, length, map, ◌*◌, Bool, eqb, ltb, if◌then◌else◌, Option, Some, None, Result, Ok, Err, ◌+◌}
 use Rattle.std.specs.List.{range_with_len}
 use Rattle.cbs_rate.specs.Plan.{common_multiple}
 use Rattle.cbs_rate.specs.Rate.{Rate}
@@ -9,7 +9,8 @@ use Rattle.cbs_rules.specs.declared.mode.Mode.{Mode}
 use Rattle.cbs_rules.specs.declared.mode.Mode.TheVariants.{Soft}
 use Rattle.cbsrun_sizing.specs.Budgets.{reserved, is_within}
 use Rattle.cbsrun_text.specs.Columns.{CellText, plain, columns_text, marked_if}
-use Rattle.cbsrun_text.specs.Numbers.{mode_word, number_text}
+use Rattle.cbsrun_text.specs.Numbers.{mode_word}
+use Rattle.cbsrun_times.specs.Texts.{amount_text, time_text}
 use Rattle.cbsrun_check_text.specs.Fractions.{fraction_text, percent_text}
 use Rattle.cbsrun_simulate.specs.Bounds.{Bounds}
 use Rattle.cbsrun_simulate.specs.declared.terms.SourceTerms.{SourceTerms}
@@ -23,11 +24,12 @@ name_at names s = get_or names s []
 abbrev pub mode_at : List Mode → ℕ → Mode
 mode_at modes s = get_or modes s Soft
 
--- the row of a server: what it has, and the greatest budget that it could have
-abbrev pub server_row : List ℕ → Mode → Rate → ℕ → List CellText
-server_row name mode rate greatest =
-    plain name ∷ plain (mode_word mode) ∷ plain (decimal rate.budget) ∷ plain (decimal rate.period) ∷ plain (fraction_text rate.budget rate.period)
-    ∷ plain (percent_text rate.budget rate.period) ∷ plain (decimal greatest) ∷ []
+-- the row of a server: what it has, and the greatest budget that it could have. Times are in milliseconds, if the
+-- nanoseconds of a tick are known
+abbrev pub server_row : Option ℕ → List ℕ → Mode → Rate → ℕ → List CellText
+server_row tick name mode rate greatest =
+    plain name ∷ plain (mode_word mode) ∷ plain (time_text tick rate.budget) ∷ plain (time_text tick rate.period) ∷ plain (fraction_text rate.budget rate.period)
+    ∷ plain (percent_text rate.budget rate.period) ∷ plain (time_text tick greatest) ∷ []
 
 abbrev pub servers_heading : List CellText
 servers_heading =
@@ -40,26 +42,32 @@ total_row rates =
     ∷ plain (percent_text (reserved rates) (common_multiple rates)) ∷ []
 
 -- the row of server s
-abbrev pub row_at : List (List ℕ) → List Mode → List Rate → List ℕ → ℕ → List CellText
-row_at names modes rates budgets s = server_row (name_at names s) (mode_at modes s) (rate_at rates s) (get_or budgets s 0)
+abbrev pub row_at : Option ℕ → List (List ℕ) → List Mode → List Rate → List ℕ → ℕ → List CellText
+row_at tick names modes rates budgets s = server_row tick (name_at names s) (mode_at modes s) (rate_at rates s) (get_or budgets s 0)
 
 -- the table SERVER: a row for each server, and one for all servers together
-unfoldable pub servers_table : List (List ℕ) → List Mode → List Rate → List ℕ → List (List CellText)
-servers_table names modes rates budgets =
-    servers_heading ∷ map (row_at names modes rates budgets) (range_with_len 0 (length rates)) ++ total_row rates ∷ []
+unfoldable pub servers_table : Option ℕ → List (List ℕ) → List Mode → List Rate → List ℕ → List (List CellText)
+servers_table tick names modes rates budgets =
+    servers_heading ∷ map (row_at tick names modes rates budgets) (range_with_len 0 (length rates)) ++ total_row rates ∷ []
 
--- a range of numbers; a range of one number is written as that number
-abbrev pub range_text : Bounds → List ℕ
-range_text r = if eqb r.least r.greatest then decimal r.least else decimal r.least ++ codes ".." ++ decimal r.greatest
+-- a range of ticks; a range of one number is written as that number
+abbrev pub range_text : Option ℕ → Bounds → List ℕ
+range_text tick r =
+    if eqb r.least r.greatest then time_text tick r.least else amount_text tick r.least ++ codes ".." ++ time_text tick r.greatest
+
+-- a number of ticks, or - if there is none
+abbrev pub optional_text : Option ℕ → Option ℕ → List ℕ
+optional_text tick None = codes "-"
+optional_text tick (Some ticks) = time_text tick ticks
 
 -- within how many ticks each job is promised to be finished, and whether that is in time
-abbrev pub promise_text : ℕ → Bool → List ℕ
-promise_text time in_time = (if in_time then codes "yes, by " else codes "no, by ") ++ decimal time
+abbrev pub promise_text : Option ℕ → ℕ → Bool → List ℕ
+promise_text tick time in_time = (if in_time then codes "yes, by " else codes "no, by ") ++ time_text tick time
 
 -- the same, if something is promised
-abbrev pub in_time_text : Result ℕ NotPromised → Option ℕ → List ℕ
-in_time_text (Err why) within = codes "not promised"
-in_time_text (Ok time) within = promise_text time (is_within time within)
+abbrev pub in_time_text : Option ℕ → Result ℕ NotPromised → Option ℕ → List ℕ
+in_time_text tick (Err why) within = codes "not promised"
+in_time_text tick (Ok time) within = promise_text tick time (is_within time within)
 
 -- the most ticks of a job: its units, and what they may overrun
 abbrev pub greatest_job : SourceTerms → ℕ
@@ -71,21 +79,21 @@ abbrev pub is_asking_too_much : Rate → SourceTerms → Bool
 is_asking_too_much rate t = ltb (rate.budget * t.every.least) (greatest_job t * rate.period)
 
 -- the row of a source: what it may ask for, what its server has, and what is promised
-abbrev pub source_row : List ℕ → Rate → Result ℕ NotPromised → SourceTerms → List CellText
-source_row name rate promised t =
-    plain name ∷ plain (range_text t.units) ∷ plain (range_text t.every)
+abbrev pub source_row : Option ℕ → List ℕ → Rate → Result ℕ NotPromised → SourceTerms → List CellText
+source_row tick name rate promised t =
+    plain name ∷ plain (range_text tick t.units) ∷ plain (range_text tick t.every)
     ∷ marked_if (is_asking_too_much rate t) (fraction_text (greatest_job t) t.every.least) ∷ plain (fraction_text rate.budget rate.period)
-    ∷ plain (number_text t.within) ∷ plain (in_time_text promised t.within) ∷ []
+    ∷ plain (optional_text tick t.within) ∷ plain (in_time_text tick promised t.within) ∷ []
 
 abbrev pub sources_heading : List CellText
 sources_heading =
     plain (codes "SOURCE OF") ∷ plain (codes "units") ∷ plain (codes "every") ∷ plain (codes "asks") ∷ plain (codes "share") ∷ plain (codes "within")
     ∷ plain (codes "in time always") ∷ []
 
-module _ (names : List (List ℕ)) (rates : List Rate) (loads : List ServerLoad) where
+module _ (tick : Option ℕ) (names : List (List ℕ)) (rates : List Rate) (loads : List ServerLoad) where
   -- the row of a source
   abbrev pub row_of : SourceTerms → List CellText
-  row_of t = source_row (name_at names t.server) (rate_at rates t.server) (get_or loads t.server no_load).promised t
+  row_of t = source_row tick (name_at names t.server) (rate_at rates t.server) (get_or loads t.server no_load).promised t
 
   -- the table SOURCE OF: a row for each source
   abbrev pub sources_table : List SourceTerms → List (List CellText)

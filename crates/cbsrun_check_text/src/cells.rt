@@ -1,10 +1,12 @@
 //! Cells of the tables. The only error of each call is out of memory.
 
-ghost use Rattle.std.specs.Prelude.{◌≡◌, IfOk, string_bytes};
+ghost use Rattle.std.specs.Prelude.{◌≡◌, ◌++◌, codes, IfOk, string_bytes};
+ghost use Rattle.cbsrun_times.specs.Texts.{amount_text, time_text};
 ghost use Rattle.cbsrun_check_text.specs.Cells.{is_marked, shown_text, cell_of};
 
 use crate::fractions::Share;
 use cbsrun_text::{Cell, ToCell};
+use cbsrun_times::{append_amount, append_time};
 use std::alloc::{AllocError, Global};
 
 /// What a cell shows.
@@ -12,20 +14,46 @@ use std::alloc::{AllocError, Global};
 pub(crate) enum Shown<'a> {
     /// A word or a name.
     Word(&'a str),
-    /// A number.
-    Number(u64),
-    /// The least and the greatest number of a range.
-    Range(u64, u64),
+    /// A number of ticks, by the nanoseconds of a tick, if they are known.
+    Time(Option<u64>, u64),
+    /// The least and the greatest number of ticks of a range.
+    Range(Option<u64>, u64, u64),
     /// That each job is finished in time: within this many ticks.
-    InTime(u64),
+    InTime(Option<u64>, u64),
     /// That each job is finished within this many ticks, which is not in time.
-    TooLate(u64),
+    TooLate(Option<u64>, u64),
     /// A share, as a shortened fraction.
     Fraction(Share),
     /// The same. Its cell is marked if the condition holds.
     MarkedFraction(Share, bool),
     /// A share, in per cent.
     Percent(Share),
+}
+
+/// Returns words with a number of ticks after them.
+fn time_after(
+    alloc: Global,
+    words: &str,
+    tick: Option<u64>,
+    ticks: u64,
+) -> Result<String, AllocError>
+    ensures { IfOk result (λ text. string_bytes text ≡ words.now ++ time_text tick ticks) }
+{
+    let mut text = String::from_str(alloc, words)?;
+    append_time(&mut text, tick, ticks)?;
+    Ok(text)
+}
+
+/// Returns the least and the greatest number of ticks of a range.
+fn range(alloc: Global, tick: Option<u64>, least: u64, greatest: u64) -> Result<String, AllocError>
+    ensures { IfOk result (λ text. string_bytes text ≡ amount_text tick least ++ codes ".."
+        ++ time_text tick greatest) }
+{
+    let mut text = String::new(alloc);
+    append_amount(&mut text, tick, least)?;
+    text.push_str("..")?;
+    append_time(&mut text, tick, greatest)?;
+    Ok(text)
 }
 
 impl Shown<'_> {
@@ -35,10 +63,10 @@ impl Shown<'_> {
     {
         match self {
             Shown::Word(word) => String::from_str(alloc, word),
-            Shown::Number(number) => number.to_string(alloc),
-            Shown::Range(least, greatest) => format!(in alloc; "{least}..{greatest}"),
-            Shown::InTime(time) => format!(in alloc; "yes, by {time}"),
-            Shown::TooLate(time) => format!(in alloc; "no, by {time}"),
+            Shown::Time(tick, ticks) => time_after(alloc, "", tick, ticks),
+            Shown::Range(tick, least, greatest) => range(alloc, tick, least, greatest),
+            Shown::InTime(tick, ticks) => time_after(alloc, "yes, by ", tick, ticks),
+            Shown::TooLate(tick, ticks) => time_after(alloc, "no, by ", tick, ticks),
             Shown::Fraction(share) | Shown::MarkedFraction(share, _) => share.fraction(alloc),
             Shown::Percent(share) => share.percent(alloc),
         }

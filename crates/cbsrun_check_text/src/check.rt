@@ -1,7 +1,7 @@
 //! The text about a file with no fault.
 
 ghost use Rattle.std.specs.Prelude.{◌≡◌, ◌++◌, length, map, IfOk, OnOk, string_bytes};
-ghost use Rattle.cbsrun_check_text.specs.Checks.{fits_text, periods_text, plan_text, numbered, IsPlanText, IsLoadText};
+ghost use Rattle.cbsrun_check_text.specs.Checks.{every_text, fits_text, periods_text, plan_text, numbered, IsPlanText, IsLoadText};
 
 use crate::fractions::append_fraction;
 use crate::lateness::append_lateness;
@@ -13,6 +13,7 @@ use cbs_rules::Modes;
 use cbsrun_loads::Load;
 use cbsrun_sizing::{greatest_budgets, left_over, server_loads};
 use cbsrun_text::append_pair;
+use cbsrun_times::append_time;
 use std::alloc::{AllocError, Global};
 
 /// Appends that the servers fit, what share of the time they have reserved, and what share is left under the bound.
@@ -38,9 +39,8 @@ fn append_fits(text: &mut String, plan: &Plan) -> Result<(), AllocError>
 }
 
 /// Appends after how many ticks all periods begin together again.
-#[tactic(auto, unfolding(crate::specs::Checks::periods_text))]
-fn append_periods(text: &mut String, ticks: u64) -> Result<(), AllocError>
-    ensures { OnOk result (string_bytes text.new ≡ string_bytes text.old ++ periods_text ticks) }
+fn append_every(text: &mut String, ticks: u64) -> Result<(), AllocError>
+    ensures { OnOk result (string_bytes text.new ≡ string_bytes text.old ++ every_text ticks) }
 {
     if ticks == 1 {
         return text.push_str("The periods come together every tick.\n");
@@ -49,11 +49,29 @@ fn append_periods(text: &mut String, ticks: u64) -> Result<(), AllocError>
     text.push_str(" ticks.\n")
 }
 
+/// Appends after how many ticks all periods begin together again. If the nanoseconds of a tick are known, the ticks are
+/// told in milliseconds, and so is the tick.
+#[tactic(auto, unfolding(crate::specs::Checks::periods_text))]
+fn append_periods(text: &mut String, tick: Option<u64>, ticks: u64) -> Result<(), AllocError>
+    ensures { OnOk result (string_bytes text.new ≡ string_bytes text.old
+        ++ periods_text tick ticks) }
+{
+    let Some(_) = tick else {
+        return append_every(text, ticks);
+    };
+    text.push_str("The periods come together every ")?;
+    append_time(text, tick, ticks)?;
+    text.push_str(". A tick is ")?;
+    append_time(text, tick, 1)?;
+    text.push_str(".\n")
+}
+
 /// Appends the text about the servers of a plan, with these names, modes and greatest budgets.
 #[tactic(auto, unfolding(crate::specs::Checks::plan_text))]
 fn append_plan(
     alloc: Global,
     text: &mut String,
+    tick: Option<u64>,
     names: &[String],
     modes: &Modes,
     plan: &Plan,
@@ -63,13 +81,13 @@ fn append_plan(
     requires moded { length modes.now ≡ length plan.now.rates }
     requires counted { length budgets.now ≡ length plan.now.rates }
     ensures { OnOk result (string_bytes text.new ≡ string_bytes text.old
-        ++ plan_text (map string_bytes names.now) modes.now plan.now budgets.now) }
+        ++ plan_text tick (map string_bytes names.now) modes.now plan.now budgets.now) }
 {
     append_fits(text, plan)?;
     text.push_str("\n")?;
-    append_servers(alloc, text, names, modes, plan, budgets)?;
+    append_servers(alloc, text, tick, names, modes, plan, budgets)?;
     text.push_str("\n")?;
-    append_periods(text, plan.bandwidth().of)
+    append_periods(text, tick, plan.bandwidth().of)
 }
 
 /// Returns names for this many servers, which have no names of their own.
@@ -98,7 +116,7 @@ pub fn check_plan(alloc: Global, plan: &Plan, modes: &Modes) -> Result<String, A
     let budgets = greatest_budgets(alloc, plan)?;
     let names = numbered(alloc, plan.len() as u16)?;
     let mut text = String::new(alloc);
-    append_plan(alloc, &mut text, &names, modes, plan, &budgets)?;
+    append_plan(alloc, &mut text, None, &names, modes, plan, &budgets)?;
     Ok(text)
 }
 
@@ -117,6 +135,7 @@ pub fn check_load(alloc: Global, load: &Load) -> Result<String, AllocError>
     append_plan(
         alloc,
         &mut text,
+        load.tick(),
         load.names(),
         load.modes(),
         load.plan(),

@@ -1,7 +1,7 @@
 //! The text about how late overruns can make the servers of a load, and how soon that is made up.
 
 ghost use Rattle.std.specs.Prelude.{◌≡◌, ◌++◌, OnOk, string_bytes};
-ghost use Rattle.cbsrun_check_text.specs.Checks.{late_by_text, recovery_text, made_up_text, is_overrunning, lateness_text};
+ghost use Rattle.cbsrun_check_text.specs.Checks.{count_text, late_by_text, recovery_text, made_up_text, is_overrunning, lateness_text};
 
 use crate::fractions::append_fraction;
 use cbs_rate::Plan;
@@ -9,6 +9,7 @@ use cbsrun_loads::Load;
 use cbsrun_simulate::SourceTerms;
 use cbsrun_sizing::{greatest_delay, recovery};
 use cbsrun_text::append_pair;
+use cbsrun_times::append_ticks;
 use std::alloc::AllocError;
 
 /// Returns whether units of a source may overrun.
@@ -23,23 +24,29 @@ fn is_overrunning(sources: &[SourceTerms]) -> bool
     false
 }
 
+/// Appends a number of ticks for a sentence. The only error is out of memory.
+fn append_count(text: &mut String, tick: Option<u64>, ticks: u64) -> Result<(), AllocError>
+    ensures { OnOk result (string_bytes text.new ≡ string_bytes text.old
+        ++ count_text tick ticks) }
+{
+    if tick.is_none() && ticks == 1 {
+        return text.push_str("1 tick");
+    }
+    append_ticks(text, tick, ticks)
+}
+
 /// Appends that overruns can make servers late by at most this many ticks. The only error is out of memory.
 #[tactic(auto, unfolding(crate::specs::Checks::late_by_text))]
-fn append_late_by(text: &mut String, ticks: u64) -> Result<(), AllocError>
-    ensures { OnOk result (string_bytes text.new ≡ string_bytes text.old ++ late_by_text ticks) }
+fn append_late_by(text: &mut String, tick: Option<u64>, ticks: u64) -> Result<(), AllocError>
+    ensures { OnOk result (string_bytes text.new ≡ string_bytes text.old
+        ++ late_by_text tick ticks) }
 {
     if ticks == 0 {
         return text.push_str("Overruns make no server late.\n");
     }
-    if ticks == 1 {
-        return text.push_str("Units that overrun make a server late by at most 1 tick.\n");
-    }
-    append_pair(
-        text,
-        "Units that overrun make a server late by at most ",
-        ticks,
-    )?;
-    text.push_str(" ticks.\n")
+    text.push_str("Units that overrun make a server late by at most ")?;
+    append_count(text, tick, ticks)?;
+    text.push_str(".\n")
 }
 
 /// Appends that what one unit overruns is made up within so many ticks, and what part of the time is free for it. The
@@ -86,7 +93,7 @@ pub(crate) fn append_lateness(text: &mut String, load: &Load) -> Result<(), Allo
     }
     text.push_str("\n")?;
     let ticks = greatest_delay(load);
-    append_late_by(text, ticks)?;
+    append_late_by(text, load.tick(), ticks)?;
     if ticks == 0 {
         return Ok(());
     }

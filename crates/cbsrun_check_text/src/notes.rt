@@ -3,7 +3,7 @@
 
 ghost use Rattle.std.specs.Prelude.{◌≡◌, ◌++◌, ◌<◌, ◌≤◌, length, Some, IfSome, IfOk, OnOk, string_bytes};
 ghost use Rattle.cbsrun_sizing.specs.ServerLoads.{AreServerLoads};
-ghost use Rattle.cbsrun_text.specs.Numbers.{number_text};
+ghost use Rattle.cbsrun_check_text.specs.Tables.{optional_text};
 ghost use Rattle.cbsrun_check_text.specs.Notes.{IsSummed, late_text, unfinished_text, why_text, reason_text, demand_text, asked_text, backlog_text, fit_text, reservation_text, remedy_text, note_text, notes_text, set_off};
 
 use crate::fractions::append_fraction;
@@ -13,27 +13,39 @@ use cbsrun_loads::Load;
 use cbsrun_proposals::{Proposal, Remedy};
 use cbsrun_sizing::{Asked, ServerLoad, least_within};
 use cbsrun_text::append_pair;
+use cbsrun_times::{append_ticks, append_time};
 use std::alloc::{AllocError, Global};
 
-/// Appends a number, or `-` if there is none.
-fn append_number(text: &mut String, number: Option<u64>) -> Result<(), AllocError>
-    ensures { OnOk result (string_bytes text.new ≡ string_bytes text.old ++ number_text number) }
+/// Appends a number of ticks, or `-` if there is none.
+fn append_optional(
+    text: &mut String,
+    tick: Option<u64>,
+    ticks: Option<u64>,
+) -> Result<(), AllocError>
+    ensures { OnOk result (string_bytes text.new ≡ string_bytes text.old
+        ++ optional_text tick ticks) }
 {
-    match number {
-        Some(number) => append_pair(text, "", number),
+    match ticks {
+        Some(ticks) => append_time(text, tick, ticks),
         None => text.push_str("-"),
     }
 }
 
 /// Appends that jobs are finished within so many ticks, and within how many is wanted.
 #[tactic(auto, unfolding(crate::specs::Notes::late_text))]
-fn append_late(text: &mut String, time: u64, within: Option<u64>) -> Result<(), AllocError>
+fn append_late(
+    text: &mut String,
+    tick: Option<u64>,
+    time: u64,
+    within: Option<u64>,
+) -> Result<(), AllocError>
     ensures { OnOk result (string_bytes text.new ≡ string_bytes text.old
-        ++ late_text time within) }
+        ++ late_text tick time within) }
 {
-    append_pair(text, "its jobs are finished within ", time)?;
-    text.push_str(" ticks, and ")?;
-    append_number(text, within)?;
+    text.push_str("its jobs are finished within ")?;
+    append_ticks(text, tick, time)?;
+    text.push_str(", and ")?;
+    append_optional(text, tick, within)?;
     text.push_str(" is wanted")
 }
 
@@ -51,19 +63,20 @@ fn append_unfinished(text: &mut String, needed: u64, backlog: u64) -> Result<(),
     )
 }
 
-/// Appends why the jobs of a server are not promised in time: they are promised late, or not at all. The only error is
-/// out of memory.
+/// Appends why the jobs of a server are not promised in time: they are promised late, or not at all. Times are in
+/// milliseconds, if the nanoseconds of a tick are known. The only error is out of memory.
 pub fn append_why(
     text: &mut String,
+    tick: Option<u64>,
     backlog: u64,
     within: Option<u64>,
     promised: Result<u64, NotPromised>,
 ) -> Result<(), AllocError>
     ensures { OnOk result (string_bytes text.new ≡ string_bytes text.old
-        ++ why_text backlog within promised) }
+        ++ why_text tick backlog within promised) }
 {
     match promised {
-        Ok(time) => append_late(text, time, within),
+        Ok(time) => append_late(text, tick, time, within),
         Err(NotPromised::AsksTooMuch) => {
             text.push_str("its jobs may come faster than they are finished")
         }
@@ -132,14 +145,20 @@ fn append_backlog(text: &mut String, backlog: Option<u64>) -> Result<(), AllocEr
 
 /// Appends whether a budget fits, if there is room for so much at its period.
 #[tactic(auto, unfolding(crate::specs::Notes::fit_text))]
-fn append_fit(text: &mut String, budget: u64, room: u64) -> Result<(), AllocError>
+fn append_fit(
+    text: &mut String,
+    tick: Option<u64>,
+    budget: u64,
+    room: u64,
+) -> Result<(), AllocError>
     ensures { OnOk result (string_bytes text.new ≡ string_bytes text.old
-        ++ fit_text budget room) }
+        ++ fit_text tick budget room) }
 {
     if budget <= room {
         return text.push_str(", and fits\n");
     }
-    append_pair(text, ", but at most ", room)?;
+    text.push_str(", but at most ")?;
+    append_time(text, tick, room)?;
     text.push_str(" fits\n")
 }
 
@@ -147,47 +166,56 @@ fn append_fit(text: &mut String, budget: u64, room: u64) -> Result<(), AllocErro
 #[tactic(auto, unfolding(crate::specs::Notes::reservation_text))]
 fn append_reservation(
     text: &mut String,
+    tick: Option<u64>,
     reservation: Option<Proposal>,
     room: u64,
 ) -> Result<(), AllocError>
     ensures { OnOk result (string_bytes text.new ≡ string_bytes text.old
-        ++ reservation_text reservation room) }
+        ++ reservation_text tick reservation room) }
 {
     let Some(reservation) = reservation else {
         return text.push_str("      no reservation that was tried would do\n");
     };
-    append_pair(text, "      ", reservation.budget)?;
-    append_pair(text, " in every ", reservation.period)?;
+    text.push_str("      ")?;
+    append_time(text, tick, reservation.budget)?;
+    text.push_str(" in every ")?;
+    append_time(text, tick, reservation.period)?;
     text.push_str(" would do")?;
-    append_fit(text, reservation.budget, room)
+    append_fit(text, tick, reservation.budget, room)
 }
 
 /// Appends what would do.
 #[tactic(auto, unfolding(crate::specs::Notes::remedy_text))]
-fn append_remedy(text: &mut String, remedy: Remedy, room: u64) -> Result<(), AllocError>
+fn append_remedy(
+    text: &mut String,
+    tick: Option<u64>,
+    remedy: Remedy,
+    room: u64,
+) -> Result<(), AllocError>
     ensures { OnOk result (string_bytes text.new ≡ string_bytes text.old
-        ++ remedy_text remedy room) }
+        ++ remedy_text tick remedy room) }
 {
     append_backlog(text, remedy.backlog)?;
-    append_reservation(text, remedy.reservation, room)
+    append_reservation(text, tick, remedy.reservation, room)
 }
 
 /// Appends the first line of a note: why the jobs of a server are not promised in time.
 #[tactic(auto, unfolding(crate::specs::Notes::reason_text))]
 fn append_reason(
     text: &mut String,
+    tick: Option<u64>,
     name: &str,
     backlog: u64,
     within: Option<u64>,
     promised: Result<u64, NotPromised>,
 ) -> Result<(), AllocError>
     ensures { OnOk result (string_bytes text.new ≡ string_bytes text.old
-        ++ reason_text name.now backlog within promised) }
+        ++ reason_text tick name.now backlog within promised) }
 {
     text.push_str("note: ")?;
     text.push_str(name)?;
     text.push_str(" is not promised: ")?;
-    append_why(text, backlog, within, promised)?;
+    append_why(text, tick, backlog, within, promised)?;
     text.push_str("\n")
 }
 
@@ -196,6 +224,7 @@ fn append_reason(
 #[tactic(auto, unfolding(crate::specs::Notes::note_text))]
 fn append_note(
     text: &mut String,
+    tick: Option<u64>,
     name: &str,
     rate: Reservation,
     backlog: u64,
@@ -204,14 +233,14 @@ fn append_note(
 ) -> Result<(), AllocError>
     requires { IfSome load.asked IsSummed }
     ensures { OnOk result (string_bytes text.new ≡ string_bytes text.old
-        ++ note_text name.now rate backlog within load) }
+        ++ note_text tick name.now rate backlog within load) }
 {
     let Some(remedy) = load.remedy else {
         return Ok(());
     };
-    append_reason(text, name, backlog, within, load.promised)?;
+    append_reason(text, tick, name, backlog, within, load.promised)?;
     append_asked(text, rate, load.promised, load.asked)?;
-    append_remedy(text, remedy, load.room)
+    append_remedy(text, tick, remedy, load.room)
 }
 
 /// Returns the notes of all servers of a load, with these figures of their sources.
@@ -228,6 +257,7 @@ fn notes(alloc: Global, load: &Load, loads: &[ServerLoad]) -> Result<String, All
         let within = least_within(load.sources(), server);
         append_note(
             &mut text,
+            load.tick(),
             names[at].as_str(),
             rate,
             load.backlog(),

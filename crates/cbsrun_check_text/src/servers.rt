@@ -32,12 +32,13 @@ fn heading(alloc: Global) -> Result<Vec<Cell>, AllocError>
 /// Returns the row of a server.
 fn server_row(
     alloc: Global,
+    tick: Option<u64>,
     name: &str,
     mode: Mode,
     rate: Reservation,
     greatest: u64,
 ) -> Result<Vec<Cell>, AllocError>
-    ensures { IfOk result (λ row. row.items ≡ server_row name.now mode rate greatest) }
+    ensures { IfOk result (λ row. row.items ≡ server_row tick name.now mode rate greatest) }
 {
     let share = Share::new(rate.budget(), rate.period());
     cells(
@@ -45,11 +46,11 @@ fn server_row(
         &[
             Shown::Word(name),
             Shown::Word(mode_word(mode)),
-            Shown::Number(rate.budget()),
-            Shown::Number(rate.period()),
+            Shown::Time(tick, rate.budget()),
+            Shown::Time(tick, rate.period()),
             Shown::Fraction(share),
             Shown::Percent(share),
-            Shown::Number(greatest),
+            Shown::Time(tick, greatest),
         ],
     )
 }
@@ -76,6 +77,7 @@ fn total_row(alloc: Global, plan: &Plan) -> Result<Vec<Cell>, AllocError>
 /// Returns the row of the server with this number.
 fn row_at(
     alloc: Global,
+    tick: Option<u64>,
     names: &[String],
     modes: &Modes,
     plan: &Plan,
@@ -86,19 +88,20 @@ fn row_at(
     requires moded { length modes.now ≡ length plan.now.rates }
     requires counted { length budgets.now ≡ length plan.now.rates }
     requires held { server < length plan.now.rates }
-    ensures { IfOk result (λ row. row.items ≡ row_at (map string_bytes names.now) modes.now
+    ensures { IfOk result (λ row. row.items ≡ row_at tick (map string_bytes names.now) modes.now
         plan.now.rates budgets.now server) }
 {
     let name = names[usize::from(server)].as_str();
     let mode = modes.get(server).unwrap();
     let rate = plan.get(server).unwrap();
-    server_row(alloc, name, mode, rate, budgets[usize::from(server)])
+    server_row(alloc, tick, name, mode, rate, budgets[usize::from(server)])
 }
 
 /// Returns the rows of the table.
 #[tactic(auto, unfolding(crate::specs::Tables::servers_table))]
 fn rows(
     alloc: Global,
+    tick: Option<u64>,
     names: &[String],
     modes: &Modes,
     plan: &Plan,
@@ -108,23 +111,24 @@ fn rows(
     requires moded { length modes.now ≡ length plan.now.rates }
     requires counted { length budgets.now ≡ length plan.now.rates }
     ensures { IfOk result (λ rows. rows_of rows.items
-        ≡ servers_table (map string_bytes names.now) modes.now plan.now.rates budgets.now) }
+        ≡ servers_table tick (map string_bytes names.now) modes.now plan.now.rates budgets.now) }
 {
     let servers = plan.len() as u16;
     let mut rows = Vec::with_capacity(alloc, usize::from(servers) + 2)?;
     rows.push(heading(alloc)?)?;
     for server in 0..servers {
-        rows.push(row_at(alloc, names, modes, plan, budgets, server)?)?;
+        rows.push(row_at(alloc, tick, names, modes, plan, budgets, server)?)?;
     }
     rows.push(total_row(alloc, plan)?)?;
     Ok(rows)
 }
 
-/// Appends the table of the servers of a plan, with these names, modes and greatest budgets. The only error is out of
-/// memory.
+/// Appends the table of the servers of a plan, with these names, modes and greatest budgets. Times are in milliseconds, if
+/// the nanoseconds of a tick are known. The only error is out of memory.
 pub(crate) fn append_servers(
     alloc: Global,
     text: &mut String,
+    tick: Option<u64>,
     names: &[String],
     modes: &Modes,
     plan: &Plan,
@@ -134,9 +138,9 @@ pub(crate) fn append_servers(
     requires moded { length modes.now ≡ length plan.now.rates }
     requires counted { length budgets.now ≡ length plan.now.rates }
     ensures { OnOk result (string_bytes text.new ≡ string_bytes text.old
-        ++ columns_text (servers_table (map string_bytes names.now) modes.now plan.now.rates
+        ++ columns_text (servers_table tick (map string_bytes names.now) modes.now plan.now.rates
         budgets.now)) }
 {
-    let rows = rows(alloc, names, modes, plan, budgets)?;
+    let rows = rows(alloc, tick, names, modes, plan, budgets)?;
     append_columns(alloc, text, &rows)
 }

@@ -2,10 +2,9 @@
 
 ghost use Rattle.std.specs.Prelude.{◌≡◌, ◌++◌, ◌<◌, ◌≤◌, length, IfOk, OnOk, string_bytes};
 ghost use Rattle.cbsrun_text.specs.Columns.{plain, rows_of};
-ghost use Rattle.cbsrun_text.specs.Numbers.{number_text};
 ghost use Rattle.cbsrun_sizing.specs.Asked.{most_ticks};
 ghost use Rattle.cbsrun_check_text.specs.Cells.{cell_of};
-ghost use Rattle.cbsrun_check_text.specs.Tables.{range_text, in_time_text, greatest_job, is_asking_too_much, source_row, row_of, sources_heading, sources_table, sources_text};
+ghost use Rattle.cbsrun_check_text.specs.Tables.{optional_text, range_text, in_time_text, greatest_job, is_asking_too_much, source_row, row_of, sources_heading, sources_table, sources_text};
 
 use crate::cells::Shown;
 use crate::fractions::Share;
@@ -17,35 +16,39 @@ use cbsrun_sizing::{ServerLoad, is_within};
 use cbsrun_text::{Cell, append_columns, cells};
 use std::alloc::{AllocError, Global};
 
-/// Returns what a cell shows of a range of numbers. A range of one number is shown as that number.
-fn range_shown(range: Range) -> Shown<'static>
-    ensures { cell_of result ≡ plain (range_text range) }
+/// Returns what a cell shows of a range of ticks. A range of one number is shown as that number.
+fn range_shown(tick: Option<u64>, range: Range) -> Shown<'static>
+    ensures { cell_of result ≡ plain (range_text tick range) }
 {
     let least = range.least();
     let greatest = range.greatest();
     if least == greatest {
-        return Shown::Number(least);
+        return Shown::Time(tick, least);
     }
-    Shown::Range(least, greatest)
+    Shown::Range(tick, least, greatest)
 }
 
-/// Returns what a cell shows of a number: it, or `-` if there is no number.
-fn number_shown(number: Option<u64>) -> Shown<'static>
-    ensures { cell_of result ≡ plain (number_text number) }
+/// Returns what a cell shows of a number of ticks: it, or `-` if there is no number.
+fn ticks_shown(tick: Option<u64>, ticks: Option<u64>) -> Shown<'static>
+    ensures { cell_of result ≡ plain (optional_text tick ticks) }
 {
-    match number {
-        Some(number) => Shown::Number(number),
+    match ticks {
+        Some(ticks) => Shown::Time(tick, ticks),
         None => Shown::Word("-"),
     }
 }
 
 /// Returns what a cell shows of whether each job is promised to be finished within the wanted ticks.
-fn promise_shown(promised: Result<u64, NotPromised>, within: Option<u64>) -> Shown<'static>
-    ensures { cell_of result ≡ plain (in_time_text promised within) }
+fn promise_shown(
+    tick: Option<u64>,
+    promised: Result<u64, NotPromised>,
+    within: Option<u64>,
+) -> Shown<'static>
+    ensures { cell_of result ≡ plain (in_time_text tick promised within) }
 {
     match promised {
-        Ok(time) if is_within(time, within) => Shown::InTime(time),
-        Ok(time) => Shown::TooLate(time),
+        Ok(time) if is_within(time, within) => Shown::InTime(tick, time),
+        Ok(time) => Shown::TooLate(tick, time),
         Err(_) => Shown::Word("not promised"),
     }
 }
@@ -89,6 +92,7 @@ fn heading(alloc: Global) -> Result<Vec<Cell>, AllocError>
 /// Returns the row of a source, with the name and the reservation of its server, and the ticks that are promised.
 fn source_row(
     alloc: Global,
+    tick: Option<u64>,
     name: &str,
     rate: Reservation,
     promised: Result<u64, NotPromised>,
@@ -96,7 +100,7 @@ fn source_row(
 ) -> Result<Vec<Cell>, AllocError>
     requires apart { 0 < terms.now.every.least }
     requires short { greatest_job terms.now ≤ most_ticks }
-    ensures { IfOk result (λ row. row.items ≡ source_row name.now rate promised terms.now) }
+    ensures { IfOk result (λ row. row.items ≡ source_row tick name.now rate promised terms.now) }
 {
     let asked = Share::new(greatest_job(terms), terms.every.least());
     let reserved = Share::new(rate.budget(), rate.period());
@@ -104,12 +108,12 @@ fn source_row(
         alloc,
         &[
             Shown::Word(name),
-            range_shown(terms.units),
-            range_shown(terms.every),
+            range_shown(tick, terms.units),
+            range_shown(tick, terms.every),
             Shown::MarkedFraction(asked, is_asking_too_much(rate, terms)),
             Shown::Fraction(reserved),
-            number_shown(terms.within),
-            promise_shown(promised, terms.within),
+            ticks_shown(tick, terms.within),
+            promise_shown(tick, promised, terms.within),
         ],
     )
 }
@@ -125,20 +129,27 @@ fn row_of(
     requires held { terms.now.server < length load.now.plan.rates }
     requires apart { 0 < terms.now.every.least }
     requires short { greatest_job terms.now ≤ most_ticks }
-    ensures { IfOk result (λ row. row.items ≡ row_of load.now.names load.now.plan.rates loads.now
+    ensures { IfOk result (λ row. row.items ≡ row_of load.now.tick load.now.names load.now.plan.rates loads.now
         terms.now) }
 {
     let server = usize::from(terms.server);
     let name = load.names()[server].as_str();
     let rate = load.plan().get(terms.server).unwrap();
-    source_row(alloc, name, rate, loads[server].promised, terms)
+    source_row(
+        alloc,
+        load.tick(),
+        name,
+        rate,
+        loads[server].promised,
+        terms,
+    )
 }
 
 /// Returns the rows of the table.
 fn rows(alloc: Global, load: &Load, loads: &[ServerLoad]) -> Result<Vec<Vec<Cell>>, AllocError>
     requires { length loads.now ≡ length load.now.plan.rates }
     ensures { IfOk result (λ rows. rows_of rows.items
-        ≡ sources_table load.now.names load.now.plan.rates loads.now load.now.sources) }
+        ≡ sources_table load.now.tick load.now.names load.now.plan.rates loads.now load.now.sources) }
 {
     let mut rows = Vec::new(alloc);
     rows.push(heading(alloc)?)?;
@@ -158,7 +169,7 @@ pub(crate) fn append_sources(
 ) -> Result<(), AllocError>
     requires { length loads.now ≡ length load.now.plan.rates }
     ensures { OnOk result (string_bytes text.new ≡ string_bytes text.old
-        ++ sources_text load.now.names load.now.plan.rates loads.now load.now.sources) }
+        ++ sources_text load.now.tick load.now.names load.now.plan.rates loads.now load.now.sources) }
 {
     if load.sources().is_empty() {
         return Ok(());

@@ -33,7 +33,7 @@ fn nothing_proposed(alloc: Global, sketch: &Sketch, server: u16) -> Result<Strin
         return Ok(text);
     }
     text.push_str(": ")?;
-    append_why(&mut text, sketch.backlog(), within, promised)?;
+    append_why(&mut text, sketch.tick(), sketch.backlog(), within, promised)?;
     text.push_str(",\n  even with each tick of the time\n")?;
     Ok(text)
 }

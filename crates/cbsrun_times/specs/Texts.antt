@@ -1,5 +1,5 @@
 -- Times as text, in milliseconds.
-use Rattle.std.specs.Prelude.{ℕ, eqb, ◌*◌, ◌/◌, ◌%◌, if◌then◌else◌, List, [], ◌∷◌, ◌++◌, codes, decimal}
+use Rattle.std.specs.Prelude.{ℕ, eqb, ◌*◌, ◌/◌, ◌%◌, if◌then◌else◌, List, [], ◌∷◌, ◌++◌, codes, decimal, Option, Some, None}
 
 -- the nanoseconds of each place after the point
 abbrev pub places : List ℕ
@@ -17,3 +17,21 @@ decimals_text part = if eqb part 0 then [] else codes "." ++ part_digits places 
 -- the milliseconds of so many ticks, by the nanoseconds of a tick, with as many decimals as it needs
 unfoldable pub milliseconds_text : ℕ → ℕ → List ℕ
 milliseconds_text tick ticks = decimal (tick * ticks / 1000000) ++ decimals_text (tick * ticks % 1000000)
+
+-- a number of ticks as an output tells it: in milliseconds, if the nanoseconds of a tick are known
+abbrev pub amount_text : Option ℕ → ℕ → List ℕ
+amount_text None ticks = decimal ticks
+amount_text (Some tick) ticks = milliseconds_text tick ticks
+
+-- the unit of such numbers in a table
+abbrev pub unit_text : Option ℕ → List ℕ
+unit_text None = []
+unit_text (Some tick) = codes " ms"
+
+-- the number with its unit in a table, and in a sentence
+abbrev pub time_text : Option ℕ → ℕ → List ℕ
+time_text tick ticks = amount_text tick ticks ++ unit_text tick
+
+abbrev pub ticks_text : Option ℕ → ℕ → List ℕ
+ticks_text None ticks = decimal ticks ++ codes " ticks"
+ticks_text (Some tick) ticks = milliseconds_text tick ticks ++ codes " ms"

@@ -6,5 +6,5 @@ mod text;
 mod ticks;
 mod unit;
 
-pub use text::append_milliseconds;
+pub use text::{append_amount, append_milliseconds, append_ticks, append_time};
 pub use ticks::{LONGEST_TICK, MOST_TICKS, Rounding, tick_of, ticks_of};

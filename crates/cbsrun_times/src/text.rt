@@ -1,7 +1,7 @@
 //! Times as text, in milliseconds.
 
 ghost use Rattle.std.specs.Prelude.{◌≡◌, ◌++◌, OnOk, string_bytes};
-ghost use Rattle.cbsrun_times.specs.Texts.{decimals_text, milliseconds_text, part_digits, places};
+ghost use Rattle.cbsrun_times.specs.Texts.{amount_text, decimals_text, milliseconds_text, part_digits, places, ticks_text, time_text, unit_text};
 
 use itoa::Buffer;
 use std::alloc::AllocError;
@@ -45,4 +45,45 @@ pub fn append_milliseconds(text: &mut String, tick: u64, ticks: u64) -> Result<(
     let nanoseconds = u128::from(tick) * u128::from(ticks);
     text.push_str(Buffer::new().format(nanoseconds / 1_000_000))?;
     append_decimals(text, (nanoseconds % 1_000_000) as u64)
+}
+
+/// Appends a number of ticks: in milliseconds, if the nanoseconds of a tick are known. The unit is left out. The only error
+/// is out of memory.
+pub fn append_amount(text: &mut String, tick: Option<u64>, ticks: u64) -> Result<(), AllocError>
+    ensures { OnOk result (string_bytes text.new ≡ string_bytes text.old ++ amount_text tick ticks) }
+{
+    match tick {
+        Some(tick) => append_milliseconds(text, tick, ticks),
+        None => text.push_str(Buffer::new().format(ticks)),
+    }
+}
+
+/// Returns the unit of numbers that [`append_amount`] appends, for a table.
+fn unit(tick: Option<u64>) -> &'static str
+    ensures { result.now ≡ unit_text tick }
+{
+    match tick {
+        Some(_) => " ms",
+        None => "",
+    }
+}
+
+/// Appends a number of ticks for a table: as milliseconds with the unit, if the nanoseconds of a tick are known, or else as
+/// the number alone. The only error is out of memory.
+pub fn append_time(text: &mut String, tick: Option<u64>, ticks: u64) -> Result<(), AllocError>
+    ensures { OnOk result (string_bytes text.new ≡ string_bytes text.old ++ time_text tick ticks) }
+{
+    append_amount(text, tick, ticks)?;
+    text.push_str(unit(tick))
+}
+
+/// Appends a number of ticks for a sentence: with `ms` or `ticks` at its end. The only error is out of memory.
+pub fn append_ticks(text: &mut String, tick: Option<u64>, ticks: u64) -> Result<(), AllocError>
+    ensures { OnOk result (string_bytes text.new ≡ string_bytes text.old ++ ticks_text tick ticks) }
+{
+    append_amount(text, tick, ticks)?;
+    match tick {
+        Some(_) => text.push_str(" ms"),
+        None => text.push_str(" ticks"),
+    }
 }

@@ -20,6 +20,7 @@ returns c = record {
     c.in_ok-append_sources.ensures,
     c.in_ok-append_plan.ensures,
     c.new-text.ensures.bytes,
+    c.tick.ensures,
     c.names.ensures.value,
     c.modes.ensures,
     c.plan-2.ensures,

@@ -27,7 +27,7 @@ loop-server-preserved c =
     let load : get_or loads s no_load ≡ get_or loads place no_load = rw c.from-at.ensures refl in
     let within = rw c.sources.ensures.value at c.least_within-within.ensures in
     note_more f loads s (string_bytes c.loop-server.text) (string_bytes c.append_note.new.text) c.as_str.result.now c.unwrap-rate.result
-    c.least_within-within.result (get_or loads place no_load) (rw c.backlog.ensures.value at c.in_ok-append_note.ensures) c.loop-server.invariant
+    c.least_within-within.result (get_or loads place no_load) (rw (c.backlog.ensures.value, c.tick.ensures) at c.in_ok-append_note.ensures) c.loop-server.invariant
     (rw c.names-names.ensures.value at name) rate within load
 
 pub loop-server-init : goal.loop-server-init

@@ -24,5 +24,5 @@ returns c =
     let rate = get_or_from_slice_get rates s c.unwrap-rate.result (record { budget = 0; period = 0 })
     (sym c.get-2.ensures.value ∙ c.unwrap-rate.ensures) in
     let budget : get_or budgets s 0 ≡ get_or budgets c.from-2.result 0 = rw c.from-2.ensures refl in
-    rw (row_is names modes rates budgets s c.as_str-name.result.now c.unwrap-mode.result c.unwrap-rate.result
+    rw (row_is c.args.tick names modes rates budgets s c.as_str-name.result.now c.unwrap-mode.result c.unwrap-rate.result
     (get_or budgets c.from-2.result 0) name mode rate budget) c.server_row.ensures

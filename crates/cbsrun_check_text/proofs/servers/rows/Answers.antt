@@ -7,7 +7,7 @@ use Rattle.cbsrun_check_text.proofs.servers.rows.Goals as goal
 
 pub loop-server-preserved : goal.loop-server-preserved
 loop-server-preserved c =
-    let row = row_at (map string_bytes c.args.names.now) c.args.modes.now c.args.plan.now.rates c.args.budgets.now in
+    let row = row_at c.args.tick (map string_bytes c.args.names.now) c.args.modes.now c.args.plan.now.rates c.args.budgets.now in
     rw c.in_ok-push-2.ensures.items
     (headed_more (λ r. r.items) row servers_heading c.loop-server.rows.items c.in_ok-row_at.field-0 c.loop-server.server c.loop-server.invariant c.in_ok-row_at.ensures)
 

@@ -7,4 +7,4 @@ use Rattle.cbsrun_check_text.proofs.servers.rows.Given as goal
 
 abbrev pub invariant-loop-server : goal.invariant-loop-server
 invariant-loop-server l = rows_of l.rows.items
-    ≡ servers_heading ∷ map (row_at (map string_bytes l.names) l.modes l.plan.rates l.budgets) (range_with_len 0 l.server)
+    ≡ servers_heading ∷ map (row_at l.tick (map string_bytes l.names) l.modes l.plan.rates l.budgets) (range_with_len 0 l.server)

@@ -22,5 +22,5 @@ returns c =
     let rate = get_or_from_slice_get f.plan.rates t.server c.unwrap-rate.result (record { budget = 0; period = 0 })
     (rw c.plan.ensures at (sym c.get.ensures.value ∙ c.unwrap-rate.ensures)) in
     let load : get_or loads t.server no_load ≡ get_or loads place no_load = rw c.from-server.ensures refl in
-    rw (source_row_is f.names f.plan.rates loads t c.as_str-name.result.now c.unwrap-rate.result (get_or loads place no_load)
-    (rw c.names.ensures.value at name) rate load) c.source_row.ensures
+    rw (source_row_is f.tick f.names f.plan.rates loads t c.as_str-name.result.now c.unwrap-rate.result (get_or loads place no_load)
+    (rw c.names.ensures.value at name) rate load) (rw c.tick.ensures at c.source_row.ensures)

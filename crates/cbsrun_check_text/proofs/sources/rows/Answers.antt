@@ -30,7 +30,7 @@ loop-terms-preserved c =
     let i = c.loop-terms.terms-index in
     let t = c.terms-item.result in
     let f = c.args.load.now in
-    let row = row_of f.names f.plan.rates c.args.loads.now in
+    let row = row_of f.tick f.names f.plan.rates c.args.loads.now in
     let is : t ≡ get_or f.sources i t = rw c.sources-terms-items.ensures.value at c.terms-item.is in
     let here : i < length f.sources = rw c.sources-terms-items.ensures.value at c.loop-terms-test.true in
     rw c.in_ok-push-2.ensures.items
