@@ -1,6 +1,6 @@
 -- What the cells of the tables show.
 use Rattle.std.specs.Prelude.{Bool, false, ℕ, List, ◌++◌, codes}
-use Rattle.cbsrun_times.specs.Texts.{amount_text, time_text}
+use Rattle.cbsrun_time_texts.specs.Texts.{amount_text, time_text}
 use Rattle.cbsrun_text.specs.Columns.{CellText, marked_if}
 use Rattle.cbsrun_check_text.specs.Fractions.{fraction_text, percent_text}
 use Rattle.cbsrun_check_text.specs.declared.cells.Shown.{Shown}

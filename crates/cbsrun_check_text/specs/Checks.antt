@@ -12,7 +12,7 @@ use Rattle.cbsrun_sizing.specs.Budgets.{AreGreatest, left_over, reserved}
 use Rattle.cbsrun_sizing.specs.ServerLoads.{AreServerLoads}
 use Rattle.cbsrun_sizing.specs.declared.server_load.ServerLoad.{ServerLoad}
 use Rattle.cbsrun_text.specs.Columns.{columns_text}
-use Rattle.cbsrun_times.specs.Texts.{ticks_text, time_text}
+use Rattle.cbsrun_time_texts.specs.Texts.{ticks_text, time_text}
 use Rattle.cbsrun_check_text.specs.Fractions.{fraction_text}
 use Rattle.cbsrun_check_text.specs.Notes.{notes_text, set_off}
 use Rattle.cbsrun_check_text.specs.Tables.{servers_table, sources_text}

@@ -12,7 +12,7 @@ use Rattle.cbsrun_proposals.specs.declared.remedy.Remedy.{Remedy}
 use Rattle.cbsrun_sizing.specs.ServerLoads.{least_within, no_load}
 use Rattle.cbsrun_sizing.specs.declared.asked.Asked.{Asked}
 use Rattle.cbsrun_sizing.specs.declared.server_load.ServerLoad.{ServerLoad}
-use Rattle.cbsrun_times.specs.Texts.{time_text, ticks_text}
+use Rattle.cbsrun_time_texts.specs.Texts.{time_text, ticks_text}
 use Rattle.cbsrun_check_text.specs.Fractions.{fraction_text}
 use Rattle.cbsrun_check_text.specs.Tables.{name_at, optional_text}
 

@@ -10,7 +10,7 @@ use Rattle.cbs_rules.specs.declared.mode.Mode.TheVariants.{Soft}
 use Rattle.cbsrun_sizing.specs.Budgets.{reserved, is_within}
 use Rattle.cbsrun_text.specs.Columns.{CellText, plain, columns_text, marked_if}
 use Rattle.cbsrun_text.specs.Numbers.{mode_word}
-use Rattle.cbsrun_times.specs.Texts.{amount_text, time_text}
+use Rattle.cbsrun_time_texts.specs.Texts.{amount_text, time_text}
 use Rattle.cbsrun_check_text.specs.Fractions.{fraction_text, percent_text}
 use Rattle.cbsrun_simulate.specs.Bounds.{Bounds}
 use Rattle.cbsrun_simulate.specs.declared.terms.SourceTerms.{SourceTerms}

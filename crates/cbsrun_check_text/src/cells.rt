@@ -1,12 +1,12 @@
 //! Cells of the tables. The only error of each call is out of memory.
 
 ghost use Rattle.std.specs.Prelude.{◌≡◌, ◌++◌, codes, IfOk, string_bytes};
-ghost use Rattle.cbsrun_times.specs.Texts.{amount_text, time_text};
+ghost use Rattle.cbsrun_time_texts.specs.Texts.{amount_text, time_text};
 ghost use Rattle.cbsrun_check_text.specs.Cells.{is_marked, shown_text, cell_of};
 
 use crate::fractions::Share;
 use cbsrun_text::{Cell, ToCell};
-use cbsrun_times::{append_amount, append_time};
+use cbsrun_time_texts::{append_amount, append_time};
 use std::alloc::{AllocError, Global};
 
 /// What a cell shows.

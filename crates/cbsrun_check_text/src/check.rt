@@ -13,7 +13,7 @@ use cbs_rules::Modes;
 use cbsrun_loads::Load;
 use cbsrun_sizing::{greatest_budgets, left_over, server_loads};
 use cbsrun_text::append_pair;
-use cbsrun_times::append_time;
+use cbsrun_time_texts::append_time;
 use std::alloc::{AllocError, Global};
 
 /// Appends that the servers fit, what share of the time they have reserved, and what share is left under the bound.

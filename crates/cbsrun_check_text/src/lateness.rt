@@ -9,7 +9,7 @@ use cbsrun_loads::Load;
 use cbsrun_simulate::SourceTerms;
 use cbsrun_sizing::{greatest_delay, recovery};
 use cbsrun_text::append_pair;
-use cbsrun_times::append_ticks;
+use cbsrun_time_texts::append_ticks;
 use std::alloc::AllocError;
 
 /// Returns whether units of a source may overrun.

@@ -13,7 +13,7 @@ use cbsrun_loads::Load;
 use cbsrun_proposals::{Proposal, Remedy};
 use cbsrun_sizing::{Asked, ServerLoad, least_within};
 use cbsrun_text::append_pair;
-use cbsrun_times::{append_ticks, append_time};
+use cbsrun_time_texts::{append_ticks, append_time};
 use std::alloc::{AllocError, Global};
 
 /// Appends a number of ticks, or `-` if there is none.

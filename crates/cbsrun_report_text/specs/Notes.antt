@@ -5,7 +5,8 @@ use Rattle.cbsrun_figures.specs.declared.figures.Figures.{Figures}
 use Rattle.cbsrun_report_text.specs.Reports.{accepted, released, late, is_in_time, sum_of}
 use Rattle.cbsrun_report_text.specs.declared.report.ServerReport.{ServerReport}
 use Rattle.std.specs.Int.{div_ceil}
-use Rattle.cbsrun_report_text.specs.Numbers.{percent_text}
+use Rattle.cbsrun_time_texts.specs.Texts.{time_text}
+use Rattle.cbsrun_report_text.specs.Numbers.{great_text, percent_text}
 
 -- a job of the server is late or was refused
 abbrev pub is_wrong : ServerReport → Bool
@@ -67,31 +68,31 @@ cover_of ticks period clock =
     if eqb clock 0 || ltb period (div_ceil (ticks * period) clock) then None else Some (div_ceil (ticks * period) clock)
 
 -- the budget that covers what was asked for, or that no budget covers it
-abbrev pub cover_text : Option ℕ → ℕ → List ℕ
-cover_text None period = codes "      no budget covers that\n"
-cover_text (Some budget) period =
-    codes "      " ++ decimal budget ++ codes " in every " ++ decimal period ++ codes " would cover it; 'cbsrun check' says what fits\n"
+abbrev pub cover_text : Option ℕ → Option ℕ → ℕ → List ℕ
+cover_text tick None period = codes "      no budget covers that\n"
+cover_text tick (Some budget) period =
+    codes "      " ++ great_text tick budget ++ codes " in every " ++ time_text tick period ++ codes " would cover it; 'cbsrun check' says what fits\n"
 
 -- why the jobs of a server are late or refused, although the server has enough
 abbrev pub burst_text : List ℕ
 burst_text = codes "      that is enough: its jobs come in bursts, or less time is wanted than they take\n"
 
 -- which budget would cover what the server was asked for, or that it has enough
-abbrev pub remedy_text : ℕ → ServerReport → List ℕ
-remedy_text clock s =
+abbrev pub remedy_text : Option ℕ → ℕ → ServerReport → List ℕ
+remedy_text tick clock s =
     if ltb (s.reservation.budget * clock) (wanted s * s.reservation.period)
-    then cover_text (cover_of (wanted s) s.reservation.period clock) s.reservation.period
+    then cover_text tick (cover_of (wanted s) s.reservation.period clock) s.reservation.period
     else burst_text
 
 -- the note of a server that is not in time
-unfoldable pub note_text : ℕ → ServerReport → List ℕ
-note_text clock s = asked_text clock s ++ remedy_text clock s
+unfoldable pub note_text : Option ℕ → ℕ → ServerReport → List ℕ
+note_text tick clock s = asked_text clock s ++ remedy_text tick clock s
 
 -- the note of a server, if it is not in time
-abbrev pub note_if_wrong : ℕ → ServerReport → List ℕ
-note_if_wrong clock s = if is_wrong s then note_text clock s else []
+abbrev pub note_if_wrong : Option ℕ → ℕ → ServerReport → List ℕ
+note_if_wrong tick clock s = if is_wrong s then note_text tick clock s else []
 
 -- an empty line and the notes of servers, if there are servers
-abbrev pub notes_text : ℕ → List ServerReport → List ℕ
-notes_text clock [] = []
-notes_text clock (s ∷ servers) = codes "\n" ++ flat_map (note_text clock) (s ∷ servers)
+abbrev pub notes_text : Option ℕ → ℕ → List ServerReport → List ℕ
+notes_text tick clock [] = []
+notes_text tick clock (s ∷ servers) = codes "\n" ++ flat_map (note_text tick clock) (s ∷ servers)

@@ -29,9 +29,10 @@ charges_text r = if eqb (sum_of (λ f. f.charged) r.servers.items) 0 then [] els
 -- the tables
 abbrev pub tables_text : RunReport → List ℕ
 tables_text r =
-    table_text (jobs_table r) ++ table_text (ticks_table r) ++ table_text (response_table r.servers.items) ++ table_text (early_table r.servers.items)
+    table_text (jobs_table r) ++ table_text (ticks_table r) ++ table_text (response_table r.tick r.servers.items)
+    ++ table_text (early_table r.tick r.servers.items)
     ++ charges_text r
 
 -- the whole report
 abbrev pub report_text : RunReport → List ℕ
-report_text r = verdict_text r.servers.items ++ codes "\n" ++ summary_text r ++ tables_text r ++ notes_text r.clock (not_in_time r.servers.items)
+report_text r = verdict_text r.servers.items ++ codes "\n" ++ summary_text r ++ tables_text r ++ notes_text r.tick r.clock (not_in_time r.servers.items)

@@ -4,9 +4,10 @@ ghost use Rattle.std.specs.Prelude.{◌≡◌, ◌++◌, ◌≤◌, ◌^◌, ◌
 ghost use Rattle.cbs_rate.specs.Limits.{longest_period};
 ghost use Rattle.cbsrun_report_text.specs.Notes.{asked_text, cover_of, cover_text, remedy_text, note_if_wrong, notes_text, not_in_time};
 
-use crate::numbers::Percent;
+use crate::numbers::{Percent, append_great};
 use crate::report::ServerReport;
 use crate::verdict::count_wrong;
+use cbsrun_time_texts::append_time;
 use std::alloc::AllocError;
 use std::fmt::Write;
 
@@ -40,29 +41,40 @@ fn cover_of(ticks: u128, period: u64, clock: u64) -> Option<u128>
 }
 
 /// Appends the budget that covers what was asked for, or that no budget covers it.
-fn append_cover(text: &mut String, cover: Option<u128>, period: u64) -> Result<(), AllocError>
+fn append_cover(
+    text: &mut String,
+    tick: Option<u64>,
+    cover: Option<u128>,
+    period: u64,
+) -> Result<(), AllocError>
     ensures { OnOk result (string_bytes text.new ≡ string_bytes text.old
-        ++ cover_text cover period) }
+        ++ cover_text tick cover period) }
 {
-    match cover {
-        Some(budget) => writeln!(
-            text,
-            "      {budget} in every {period} would cover it; 'cbsrun check' says what fits"
-        ),
-        None => text.push_str("      no budget covers that\n"),
-    }
+    let Some(budget) = cover else {
+        return text.push_str("      no budget covers that\n");
+    };
+    text.push_str("      ")?;
+    append_great(text, tick, budget)?;
+    text.push_str(" in every ")?;
+    append_time(text, tick, period)?;
+    text.push_str(" would cover it; 'cbsrun check' says what fits\n")
 }
 
 /// Appends which budget would cover what a server was asked for, or that the server has enough.
-fn append_remedy(text: &mut String, clock: u64, server: &ServerReport) -> Result<(), AllocError>
+fn append_remedy(
+    text: &mut String,
+    tick: Option<u64>,
+    clock: u64,
+    server: &ServerReport,
+) -> Result<(), AllocError>
     ensures { OnOk result (string_bytes text.new ≡ string_bytes text.old
-        ++ remedy_text clock server.now) }
+        ++ remedy_text tick clock server.now) }
 {
     let period = server.reservation.period();
     let wanted = server.wanted();
     let share = u128::from(server.reservation.budget()) * u128::from(clock);
     if share < wanted * u128::from(period) {
-        return append_cover(text, cover_of(wanted, period, clock), period);
+        return append_cover(text, tick, cover_of(wanted, period, clock), period);
     }
     text.push_str(
         "      that is enough: its jobs come in bursts, or less time is wanted than they take\n",
@@ -71,32 +83,38 @@ fn append_remedy(text: &mut String, clock: u64, server: &ServerReport) -> Result
 
 /// Appends the note of a server, if it is not in time.
 #[tactic(auto, unfolding(crate::specs::Notes::note_text))]
-fn append_note(text: &mut String, clock: u64, server: &ServerReport) -> Result<(), AllocError>
+fn append_note(
+    text: &mut String,
+    tick: Option<u64>,
+    clock: u64,
+    server: &ServerReport,
+) -> Result<(), AllocError>
     ensures { OnOk result (string_bytes text.new ≡ string_bytes text.old
-        ++ note_if_wrong clock server.now) }
+        ++ note_if_wrong tick clock server.now) }
 {
     if server.is_in_time() {
         return Ok(());
     }
     append_asked(text, clock, server)?;
-    append_remedy(text, clock, server)
+    append_remedy(text, tick, clock, server)
 }
 
 /// Appends an empty line and the notes of the servers that are not in time, if there are any.
 pub(crate) fn append_notes(
     text: &mut String,
+    tick: Option<u64>,
     clock: u64,
     servers: &[ServerReport],
 ) -> Result<(), AllocError>
     ensures { OnOk result (string_bytes text.new ≡ string_bytes text.old
-        ++ notes_text clock (not_in_time servers.now)) }
+        ++ notes_text tick clock (not_in_time servers.now)) }
 {
     if count_wrong(servers) == 0 {
         return Ok(());
     }
     text.push_str("\n")?;
     for server in servers {
-        append_note(text, clock, server)?;
+        append_note(text, tick, clock, server)?;
     }
     Ok(())
 }

@@ -1,8 +1,11 @@
 //! Shares and means, as a report prints them.
 
-ghost use Rattle.std.specs.Prelude.{◌≡◌, ◌/◌, ◌%◌, ◌^◌, ◌<◌};
-ghost use Rattle.cbsrun_report_text.specs.Numbers.{percent_tenths, mean_tenths};
+ghost use Rattle.std.specs.Prelude.{◌≡◌, ◌++◌, ◌/◌, ◌%◌, ◌^◌, ◌<◌, OnOk, string_bytes};
+ghost use Rattle.cbsrun_report_text.specs.Numbers.{great_text, percent_tenths, mean_tenths};
 
+use cbsrun_text::append_pair;
+use cbsrun_time_texts::append_time;
+use std::alloc::AllocError;
 use std::fmt;
 
 /// A part of a whole, in per cent with one decimal, rounded, a half upward. If the whole is 0, it is written as `-`.
@@ -60,7 +63,7 @@ pub(crate) struct Mean {
 impl Mean {
     /// Returns the whole part and the tenths of the mean. There must be a number. They are computed from the quotient
     /// and the remainder, since 20 times the sum may not fit.
-    fn parts(&self) -> (u128, u128)
+    pub(crate) fn parts(&self) -> (u128, u128)
         requires { 0 < self.now.count }
         ensures whole { result.0 ≡ mean_tenths self.now.total self.now.count / 10 }
         ensures tenths { result.1 ≡ mean_tenths self.now.total self.now.count % 10 }
@@ -86,4 +89,23 @@ impl fmt::Display for Mean {
         let (whole, tenths) = self.parts();
         write!(f, "{whole}.{tenths}")
     }
+}
+
+/// Appends a great number of ticks: in milliseconds, if the nanoseconds of a tick are known and there are fewer than 2^64.
+/// The only error is out of memory.
+pub(crate) fn append_great(
+    text: &mut String,
+    tick: Option<u64>,
+    ticks: u128,
+) -> Result<(), AllocError>
+    ensures { OnOk result (string_bytes text.new ≡ string_bytes text.old ++ great_text tick ticks) }
+{
+    if tick.is_none() {
+        return append_pair(text, "", ticks);
+    }
+    if ticks < 18_446_744_073_709_551_616 {
+        return append_time(text, tick, ticks as u64);
+    }
+    append_pair(text, "", ticks)?;
+    text.push_str(" ticks")
 }

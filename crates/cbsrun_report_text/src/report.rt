@@ -31,6 +31,8 @@ pub struct ServerReport {
 pub struct RunReport {
     /// The name of the file that was run.
     pub file: String,
+    /// The nanoseconds of a tick, if the file says how long it is.
+    pub tick: Option<u64>,
     /// The seed of the numbers that were drawn, if any were.
     pub seed: Option<u64>,
     /// The clock at the end.

@@ -2,9 +2,8 @@
 
 ghost use Rattle.std.specs.Prelude.{◌≡◌, ◌≤◌, ◌++◌, IfOk, OnOk, length};
 ghost use Rattle.cbsrun_text.specs.Columns.{plain, rows_of};
-ghost use Rattle.cbsrun_text.specs.Numbers.{number_text};
 ghost use Rattle.cbsrun_report_text.specs.Cells.{cell_of};
-ghost use Rattle.cbsrun_report_text.specs.Tables.{late_cell, jobs_row, jobs_total, jobs_table, ticks_row, ticks_total, ticks_table, within_text, rank_cells, response_row, response_table, early_row, early_table, charges_row, charges_total, charges_table};
+ghost use Rattle.cbsrun_report_text.specs.Tables.{late_cell, jobs_row, jobs_total, jobs_table, ticks_row, ticks_total, ticks_table, within_text, rank_cells, response_row, response_table, early_text, early_row, early_table, charges_row, charges_total, charges_table};
 
 use crate::cells::Shown;
 use crate::numbers::{Mean, Percent};
@@ -91,8 +90,13 @@ pub(crate) fn jobs_table(alloc: Global, report: &RunReport) -> Result<Vec<Vec<Ce
 }
 
 /// Returns the row of a server in the table of ticks.
-fn ticks_row(alloc: Global, clock: u64, server: &ServerReport) -> Result<Vec<Cell>, AllocError>
-    ensures { IfOk result (λ row. row.items ≡ ticks_row clock server.now) }
+fn ticks_row(
+    alloc: Global,
+    tick: Option<u64>,
+    clock: u64,
+    server: &ServerReport,
+) -> Result<Vec<Cell>, AllocError>
+    ensures { IfOk result (λ row. row.items ≡ ticks_row tick clock server.now) }
 {
     let figures = &server.figures;
     let budget = server.reservation.budget();
@@ -102,7 +106,7 @@ fn ticks_row(alloc: Global, clock: u64, server: &ServerReport) -> Result<Vec<Cel
         alloc,
         &[
             Shown::Word(&server.name),
-            Shown::Pair(budget, " in ", period),
+            Shown::Reserved(tick, budget, period),
             Shown::Percent(Percent::new(u128::from(budget), period)),
             Shown::MarkedPercent(asked, server.is_asked_too_much(clock)),
             Shown::Percent(Percent::new(u128::from(figures.run), clock)),
@@ -158,15 +162,15 @@ pub(crate) fn ticks_table(alloc: Global, report: &RunReport) -> Result<Vec<Vec<C
     )?;
     let mut table = vec![in alloc; heading]?;
     for server in &report.servers {
-        table.push(ticks_row(alloc, report.clock, server)?)?;
+        table.push(ticks_row(alloc, report.tick, report.clock, server)?)?;
     }
     table.push(ticks_total(alloc, report)?)?;
     Ok(table)
 }
 
 /// Returns what a cell shows of the ticks within which the jobs are wanted: them, or `-` if there are none.
-fn within_shown(server: &ServerReport) -> Shown<'static>
-    ensures { cell_of result ≡ plain (within_text server.now.within) }
+fn within_shown(tick: Option<u64>, server: &ServerReport) -> Shown<'static>
+    ensures { cell_of result ≡ plain (within_text tick server.now.within) }
 {
     let Some(within) = &server.within else {
         return Shown::Word("-");
@@ -174,15 +178,20 @@ fn within_shown(server: &ServerReport) -> Shown<'static>
     let least = within.least();
     let greatest = within.greatest();
     if least == greatest {
-        return Shown::Number(least);
+        return Shown::Time(tick, least);
     }
-    Shown::Pair(least, "..", greatest)
+    Shown::TimeRange(tick, least, greatest)
 }
 
 /// Adds the cells of a server's response times.
-fn add_ranks(alloc: Global, row: &mut Vec<Cell>, server: &ServerReport) -> Result<(), AllocError>
+fn add_ranks(
+    alloc: Global,
+    tick: Option<u64>,
+    row: &mut Vec<Cell>,
+    server: &ServerReport,
+) -> Result<(), AllocError>
     ensures { OnOk result (row.new.items ≡ row.old.items
-        ++ rank_cells server.now.figures server.now.figures.responses) }
+        ++ rank_cells tick server.now.figures server.now.figures.responses) }
 {
     let figures = &server.figures;
     let Some(ranks) = figures.responses else {
@@ -196,23 +205,27 @@ fn add_ranks(alloc: Global, row: &mut Vec<Cell>, server: &ServerReport) -> Resul
         alloc,
         row,
         &[
-            Shown::Number(ranks.least),
-            Shown::Mean(mean),
-            Shown::Number(ranks.median),
-            Shown::Number(ranks.p95),
-            Shown::Number(ranks.p99),
-            Shown::Marked(u128::from(ranks.greatest), server.late() > 0),
+            Shown::Time(tick, ranks.least),
+            Shown::Mean(tick, mean),
+            Shown::Time(tick, ranks.median),
+            Shown::Time(tick, ranks.p95),
+            Shown::Time(tick, ranks.p99),
+            Shown::MarkedTime(tick, ranks.greatest, server.late() > 0),
         ],
     )
 }
 
 /// Returns the row of a server in the table of response times.
-fn response_row(alloc: Global, server: &ServerReport) -> Result<Vec<Cell>, AllocError>
-    ensures { IfOk result (λ row. row.items ≡ response_row server.now) }
+fn response_row(
+    alloc: Global,
+    tick: Option<u64>,
+    server: &ServerReport,
+) -> Result<Vec<Cell>, AllocError>
+    ensures { IfOk result (λ row. row.items ≡ response_row tick server.now) }
 {
     let mut row = cells(alloc, &[Shown::Word(&server.name)])?;
-    add_ranks(alloc, &mut row, server)?;
-    add_cells(alloc, &mut row, &[within_shown(server)])?;
+    add_ranks(alloc, tick, &mut row, server)?;
+    add_cells(alloc, &mut row, &[within_shown(tick, server)])?;
     Ok(row)
 }
 
@@ -220,9 +233,10 @@ fn response_row(alloc: Global, server: &ServerReport) -> Result<Vec<Cell>, Alloc
 #[tactic(auto, unfolding(crate::specs::Tables::response_table))]
 pub(crate) fn response_table(
     alloc: Global,
+    tick: Option<u64>,
     servers: &[ServerReport],
 ) -> Result<Vec<Vec<Cell>>, AllocError>
-    ensures { IfOk result (λ table. rows_of table.items ≡ response_table servers.now) }
+    ensures { IfOk result (λ table. rows_of table.items ≡ response_table tick servers.now) }
 {
     let heading = cells(
         alloc,
@@ -232,24 +246,28 @@ pub(crate) fn response_table(
     )?;
     let mut table = vec![in alloc; heading]?;
     for server in servers {
-        table.push(response_row(alloc, server)?)?;
+        table.push(response_row(alloc, tick, server)?)?;
     }
     Ok(table)
 }
 
-/// Returns what a cell shows of a number: it, or `-` if there is no number.
-fn number_shown(number: Option<u128>) -> Shown<'static>
-    ensures { cell_of result ≡ plain (number_text number) }
+/// Returns what a cell shows of a great number of ticks: it, or `-` if there is none.
+fn early_shown(tick: Option<u64>, ticks: Option<u128>) -> Shown<'static>
+    ensures { cell_of result ≡ plain (early_text tick ticks) }
 {
-    match number {
-        Some(number) => Shown::Sum(number),
+    match ticks {
+        Some(ticks) => Shown::GreatTime(tick, ticks),
         None => Shown::Word("-"),
     }
 }
 
 /// Returns the row of a server in the table of how early its jobs were finished.
-fn early_row(alloc: Global, server: &ServerReport) -> Result<Vec<Cell>, AllocError>
-    ensures { IfOk result (λ row. row.items ≡ early_row server.now) }
+fn early_row(
+    alloc: Global,
+    tick: Option<u64>,
+    server: &ServerReport,
+) -> Result<Vec<Cell>, AllocError>
+    ensures { IfOk result (λ row. row.items ≡ early_row tick server.now) }
 {
     let mean = Mean {
         total: server.figures.early_total,
@@ -259,8 +277,8 @@ fn early_row(alloc: Global, server: &ServerReport) -> Result<Vec<Cell>, AllocErr
         alloc,
         &[
             Shown::Word(&server.name),
-            number_shown(server.figures.early_least),
-            Shown::Mean(mean),
+            early_shown(tick, server.figures.early_least),
+            Shown::Mean(tick, mean),
         ],
     )
 }
@@ -269,14 +287,15 @@ fn early_row(alloc: Global, server: &ServerReport) -> Result<Vec<Cell>, AllocErr
 #[tactic(auto, unfolding(crate::specs::Tables::early_table))]
 pub(crate) fn early_table(
     alloc: Global,
+    tick: Option<u64>,
     servers: &[ServerReport],
 ) -> Result<Vec<Vec<Cell>>, AllocError>
-    ensures { IfOk result (λ table. rows_of table.items ≡ early_table servers.now) }
+    ensures { IfOk result (λ table. rows_of table.items ≡ early_table tick servers.now) }
 {
     let heading = cells(alloc, &["EARLY", "least", "mean"])?;
     let mut table = vec![in alloc; heading]?;
     for server in servers {
-        table.push(early_row(alloc, server)?)?;
+        table.push(early_row(alloc, tick, server)?)?;
     }
     Ok(table)
 }

@@ -71,8 +71,16 @@ fn append_tables(alloc: Global, text: &mut String, report: &RunReport) -> Result
 {
     append_table(alloc, text, &jobs_table(alloc, report)?)?;
     append_table(alloc, text, &ticks_table(alloc, report)?)?;
-    append_table(alloc, text, &response_table(alloc, &report.servers)?)?;
-    append_table(alloc, text, &early_table(alloc, &report.servers)?)?;
+    append_table(
+        alloc,
+        text,
+        &response_table(alloc, report.tick, &report.servers)?,
+    )?;
+    append_table(
+        alloc,
+        text,
+        &early_table(alloc, report.tick, &report.servers)?,
+    )?;
     append_charges(alloc, text, report)
 }
 
@@ -87,6 +95,6 @@ pub fn report_text(alloc: Global, report: &RunReport) -> Result<String, AllocErr
     text.push_str("\n")?;
     append_summary(&mut text, report)?;
     append_tables(alloc, &mut text, report)?;
-    append_notes(&mut text, report.clock, &report.servers)?;
+    append_notes(&mut text, report.tick, report.clock, &report.servers)?;
     Ok(text)
 }

@@ -7,7 +7,7 @@ use cbsrun_loads::Sketch;
 use cbsrun_proposals::Proposal;
 use cbsrun_simulate::{Range, SourceTerms};
 use cbsrun_text::{append_pair, mode_word};
-use cbsrun_times::append_milliseconds;
+use cbsrun_time_texts::append_milliseconds;
 use std::alloc::{AllocError, Global};
 
 /// Appends a line with a key and a number.

@@ -1,4 +1,3 @@
 pub mod Decimals
-pub mod Texts
 pub mod Ticks
 pub mod Units

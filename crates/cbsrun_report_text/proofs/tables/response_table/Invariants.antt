@@ -4,4 +4,4 @@ use Rattle.cbsrun_report_text.specs.Tables.{response_heading, response_row}
 use Rattle.cbsrun_report_text.proofs.tables.response_table.Given as goal
 
 abbrev pub invariant-loop-server : goal.invariant-loop-server
-invariant-loop-server l = rows_of l.table.items ≡ response_heading ∷ map response_row (take l.server-index l.servers)
+invariant-loop-server l = rows_of l.table.items ≡ response_heading ∷ map (response_row l.tick) (take l.server-index l.servers)

@@ -1,6 +1,6 @@
 use Rattle.std.proofs.Common.{◌≡◌, ◌++◌, string_bytes, drop}
-use Rattle.cbsrun_times.specs.Texts.{part_digits, places}
-use Rattle.cbsrun_times.proofs.text.append_digits.Given as goal
+use Rattle.cbsrun_time_texts.specs.Texts.{part_digits, places}
+use Rattle.cbsrun_time_texts.proofs.text.append_digits.Given as goal
 
 -- the digits so far and those of what is left are those of the part
 abbrev pub invariant-loop-place : goal.invariant-loop-place

@@ -1,5 +1,5 @@
 -- Times as text, in milliseconds.
-use Rattle.std.specs.Prelude.{ℕ, eqb, ◌*◌, ◌/◌, ◌%◌, if◌then◌else◌, List, [], ◌∷◌, ◌++◌, codes, decimal, Option, Some, None}
+use Rattle.std.specs.Prelude.{ℕ, eqb, ltb, ◌*◌, ◌/◌, ◌%◌, if◌then◌else◌, List, [], ◌∷◌, ◌++◌, codes, decimal, Option, Some, None}
 
 -- the nanoseconds of each place after the point
 abbrev pub places : List ℕ
@@ -14,9 +14,13 @@ part_digits (place ∷ more) part = if eqb part 0 then [] else decimal (part / p
 abbrev pub decimals_text : ℕ → List ℕ
 decimals_text part = if eqb part 0 then [] else codes "." ++ part_digits places part
 
--- the milliseconds of so many ticks, by the nanoseconds of a tick, with as many decimals as it needs
-unfoldable pub milliseconds_text : ℕ → ℕ → List ℕ
-milliseconds_text tick ticks = decimal (tick * ticks / 1000000) ++ decimals_text (tick * ticks % 1000000)
+-- so many nanoseconds in milliseconds, with as many decimals as it needs
+unfoldable pub nanoseconds_text : ℕ → List ℕ
+nanoseconds_text n = decimal (n / 1000000) ++ decimals_text (n % 1000000)
+
+-- the milliseconds of so many ticks, by the nanoseconds of a tick
+abbrev pub milliseconds_text : ℕ → ℕ → List ℕ
+milliseconds_text tick ticks = nanoseconds_text (tick * ticks)
 
 -- a number of ticks as an output tells it: in milliseconds, if the nanoseconds of a tick are known
 abbrev pub amount_text : Option ℕ → ℕ → List ℕ
@@ -35,3 +39,7 @@ time_text tick ticks = amount_text tick ticks ++ unit_text tick
 abbrev pub ticks_text : Option ℕ → ℕ → List ℕ
 ticks_text None ticks = decimal ticks ++ codes " ticks"
 ticks_text (Some tick) ticks = milliseconds_text tick ticks ++ codes " ms"
+
+-- so many parts of a tick, of which these make up one, in milliseconds for a table
+abbrev pub part_text : ℕ → ℕ → ℕ → List ℕ
+part_text tick parts of = nanoseconds_text (tick * parts / of) ++ codes " ms"

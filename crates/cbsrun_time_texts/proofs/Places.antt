@@ -1,7 +1,7 @@
 -- The digits of a part, place by place.
 use Rattle.std.proofs.Common.{◌≡◌, ◌≢◌, ◌<◌, ◌+◌, ◌++◌, ◌/◌, ◌%◌, ℕ, ne_eqb, List, [], ◌∷◌, drop, get_or, length, decimal, refl, ap, ◌∙◌}
 use Rattle.std.proofs.lemmas.List.{drop_more}
-use Rattle.cbsrun_times.specs.Texts.{part_digits}
+use Rattle.cbsrun_time_texts.specs.Texts.{part_digits}
 
 -- nothing is left to write of 0
 pub no_digits : (places : List ℕ) (part : ℕ) → part ≡ 0 → part_digits places part ≡ []

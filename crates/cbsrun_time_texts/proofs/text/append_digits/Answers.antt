@@ -1,7 +1,7 @@
 use Rattle.std.proofs.Common.{◌≡◌, ◌++◌, ◌<◌, refl, sym, ◌∙◌, ap, drop, length, string_bytes, append-nil, append_assoc, arith}
-use Rattle.cbsrun_times.specs.Texts.{part_digits, places}
-use Rattle.cbsrun_times.proofs.Places.{digit_at, no_digits, no_places}
-use Rattle.cbsrun_times.proofs.text.append_digits.Goals as goal
+use Rattle.cbsrun_time_texts.specs.Texts.{part_digits, places}
+use Rattle.cbsrun_time_texts.proofs.Places.{digit_at, no_digits, no_places}
+use Rattle.cbsrun_time_texts.proofs.text.append_digits.Goals as goal
 
 pub returns-then-left-eq0 : goal.returns-then-left-eq0
 returns-then-left-eq0 c =

@@ -1,7 +1,7 @@
 //! Times as text, in milliseconds.
 
 ghost use Rattle.std.specs.Prelude.{◌≡◌, ◌++◌, OnOk, string_bytes};
-ghost use Rattle.cbsrun_times.specs.Texts.{amount_text, decimals_text, milliseconds_text, part_digits, places, ticks_text, time_text, unit_text};
+ghost use Rattle.cbsrun_time_texts.specs.Texts.{amount_text, decimals_text, milliseconds_text, nanoseconds_text, part_digits, part_text, places, ticks_text, time_text, unit_text};
 
 use itoa::Buffer;
 use std::alloc::AllocError;
@@ -35,16 +35,23 @@ fn append_decimals(text: &mut String, part: u64) -> Result<(), AllocError>
     append_digits(text, part)
 }
 
+/// Appends so many nanoseconds in milliseconds, without the unit. There are as many decimals as it needs to be exact.
+#[tactic(auto, unfolding(crate::specs::Texts::nanoseconds_text))]
+fn append_nanoseconds(text: &mut String, nanoseconds: u128) -> Result<(), AllocError>
+    ensures { OnOk result (string_bytes text.new ≡ string_bytes text.old
+        ++ nanoseconds_text nanoseconds) }
+{
+    text.push_str(Buffer::new().format(nanoseconds / 1_000_000))?;
+    append_decimals(text, (nanoseconds % 1_000_000) as u64)
+}
+
 /// Appends the milliseconds of so many ticks, without the unit, by the nanoseconds of a tick. There are as many decimals
 /// as it needs to be exact. The only error is out of memory.
-#[tactic(auto, unfolding(crate::specs::Texts::milliseconds_text))]
 pub fn append_milliseconds(text: &mut String, tick: u64, ticks: u64) -> Result<(), AllocError>
     ensures { OnOk result (string_bytes text.new ≡ string_bytes text.old
         ++ milliseconds_text tick ticks) }
 {
-    let nanoseconds = u128::from(tick) * u128::from(ticks);
-    text.push_str(Buffer::new().format(nanoseconds / 1_000_000))?;
-    append_decimals(text, (nanoseconds % 1_000_000) as u64)
+    append_nanoseconds(text, u128::from(tick) * u128::from(ticks))
 }
 
 /// Appends a number of ticks: in milliseconds, if the nanoseconds of a tick are known. The unit is left out. The only error
@@ -86,4 +93,14 @@ pub fn append_ticks(text: &mut String, tick: Option<u64>, ticks: u64) -> Result<
         Some(_) => text.push_str(" ms"),
         None => text.push_str(" ticks"),
     }
+}
+
+/// Appends so many parts of a tick, of which `of` make up one, for a table: in milliseconds with the unit, by the
+/// nanoseconds of a tick. A part of a nanosecond is left out. The only error is out of memory.
+pub fn append_part(text: &mut String, tick: u64, parts: u64, of: u64) -> Result<(), AllocError>
+    requires { 0 < of }
+    ensures { OnOk result (string_bytes text.new ≡ string_bytes text.old ++ part_text tick parts of) }
+{
+    append_nanoseconds(text, u128::from(tick) * u128::from(parts) / u128::from(of))?;
+    text.push_str(" ms")
 }
