@@ -96,6 +96,7 @@ run_of f = record {
   modes = f.modes;
   plan = f.plan;
   backlog = f.backlog;
+  tick = f.tick;
   seed = Some f.seed;
   within = λ s. within_of s f.sources;
   seen = seen_in f;

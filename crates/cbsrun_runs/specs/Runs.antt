@@ -22,14 +22,15 @@ pub record SawSome {S : Type 0} (saw failed : S → S → List Seen → Type 0) 
   pub all : later ++ done ≡ steps
   pub seen : saw first now done ⊎ failed first now done
 
--- a run: the names, the modes and the plan of its servers, their backlog, and the seed of its numbers, if some are drawn;
--- within how many ticks the jobs of each server are to be finished; the steps as a view sees them, the newest first, and
--- the tick at which they end
+-- a run: the names, the modes and the plan of its servers, their backlog, the nanoseconds of a tick, if they are said,
+-- and the seed of its numbers, if some are drawn; within how many ticks the jobs of each server are to be finished; the
+-- steps as a view sees them, the newest first, and the tick at which they end
 pub record Shown : Type 0 where
   pub names : List (List ℕ)
   pub modes : List Mode
   pub plan : Planned
   pub backlog : ℕ
+  pub tick : Option ℕ
   pub seed : Option ℕ
   pub within : ℕ → Option Bounds
   pub seen : List Seen
@@ -59,6 +60,7 @@ pub record IsServerReport (r : Shown) (s : ℕ) (told : ServerReport) : Type 0 w
 -- the report of a run, which names the file so
 pub record IsReportOf (name : List ℕ) (r : Shown) (report : RunReport) : Type 0 where
   pub file : string_bytes report.file ≡ name
+  pub tick : report.tick ≡ r.tick
   pub seed : report.seed ≡ r.seed
   pub clock : report.clock ≡ r.end
   pub idle : report.idle ≡ told (total (λ o. ticks_idle o.event) r.seen)

@@ -123,6 +123,7 @@ run_of_tasks f = record {
   modes = f.modes;
   plan = f.plan;
   backlog = f.backlog;
+  tick = None;
   seed = None;
   within = λ s. None;
   seen = seen_in_tasks f;

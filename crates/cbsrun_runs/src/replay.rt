@@ -71,6 +71,10 @@ impl Run for Replay {
         self.backlog
     }
 
+    fn tick(&self) -> Option<u64> {
+        None
+    }
+
     fn seed(&self) -> Option<u64> {
         None
     }

@@ -92,6 +92,7 @@ pub fn report_of<R: Run, P: Progress>(
     }
     Ok(RunReport {
         file: String::from_str(alloc, file)?,
+        tick: run.tick(),
         seed: run.seed(),
         clock: outcome.end,
         idle: outcome.idle,

@@ -35,6 +35,10 @@ pub trait Run {
     fn backlog(&self) -> u64
         ensures { result ≡ (run self.now).backlog };
 
+    /// Returns the nanoseconds of a tick, or `None` if the file does not say how long a tick is.
+    fn tick(&self) -> Option<u64>
+        ensures { result ≡ (run self.now).tick };
+
     /// Returns the seed of the numbers that are drawn, or `None` if none are.
     fn seed(&self) -> Option<u64>
         ensures { result ≡ (run self.now).seed };

@@ -34,6 +34,10 @@ impl Run for Load {
         Load::backlog(self)
     }
 
+    fn tick(&self) -> Option<u64> {
+        Load::tick(self)
+    }
+
     fn seed(&self) -> Option<u64> {
         Some(Load::seed(self))
     }

@@ -1,5 +1,5 @@
 -- Times as text, in milliseconds.
-use Rattle.std.specs.Prelude.{ℕ, eqb, ltb, ◌*◌, ◌/◌, ◌%◌, if◌then◌else◌, List, [], ◌∷◌, ◌++◌, codes, decimal, Option, Some, None}
+use Rattle.std.specs.Prelude.{ℕ, eqb, ◌*◌, ◌/◌, ◌%◌, if◌then◌else◌, List, [], ◌∷◌, ◌++◌, codes, decimal, Option, Some, None}
 
 -- the nanoseconds of each place after the point
 abbrev pub places : List ℕ

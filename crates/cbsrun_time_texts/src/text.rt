@@ -1,6 +1,6 @@
 //! Times as text, in milliseconds.
 
-ghost use Rattle.std.specs.Prelude.{◌≡◌, ◌++◌, OnOk, string_bytes};
+ghost use Rattle.std.specs.Prelude.{◌≡◌, ◌++◌, ◌<◌, OnOk, string_bytes};
 ghost use Rattle.cbsrun_time_texts.specs.Texts.{amount_text, decimals_text, milliseconds_text, nanoseconds_text, part_digits, part_text, places, ticks_text, time_text, unit_text};
 
 use itoa::Buffer;

@@ -1,5 +1,5 @@
 -- Times in whole ticks.
-use Rattle.std.specs.Prelude.{ℕ, Bool, true, false, eqb, ltb, leb, ◌&&◌, ◌||◌, ◌*◌, ◌/◌, ◌%◌, if◌then◌else◌, List, Option, Some, None}
+use Rattle.std.specs.Prelude.{ℕ, Bool, true, false, eqb, ltb, leb, ◌&&◌, ◌*◌, ◌/◌, ◌%◌, if◌then◌else◌, List, Option, Some, None}
 use Rattle.std.specs.Int.{div_ceil}
 use Rattle.std.specs.Option.{option_and_then}
 use Rattle.cbsrun_times.specs.Decimals.{decimal_of, parted}

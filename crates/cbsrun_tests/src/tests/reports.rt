@@ -90,6 +90,7 @@ pub(crate) fn report_of(rt: &impl Abort, alloc: Global, run: &Run) -> RunReport 
     let (ticks, of) = run.reserved;
     RunReport {
         file: String::from_str(alloc, run.file).ok().expect(rt, "memory"),
+        tick: None,
         seed: run.seed,
         clock: run.clock,
         idle: run.idle,

@@ -42,6 +42,7 @@ returns-clause-report g c =
     let third = c.plan-3.ensures ∙ ap (λ (s : Shown). s.plan) same in
     record {
       file = c.in_ok-from_str.ensures.ok;
+      tick = c.tick.ensures ∙ ap (λ (s : Shown). s.tick) same;
       seed = c.seed.ensures ∙ ap (λ (s : Shown). s.seed) same;
       clock = c.in_ok-outcome.ensures.end;
       idle = c.in_ok-outcome.ensures.idle;

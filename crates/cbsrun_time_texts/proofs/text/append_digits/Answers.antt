@@ -1,5 +1,5 @@
-use Rattle.std.proofs.Common.{◌≡◌, ◌++◌, ◌<◌, refl, sym, ◌∙◌, ap, drop, length, string_bytes, append-nil, append_assoc, arith}
-use Rattle.cbsrun_time_texts.specs.Texts.{part_digits, places}
+use Rattle.std.proofs.Common.{◌≡◌, ◌<◌, refl, drop, length, append-nil, append_assoc, arith}
+use Rattle.cbsrun_time_texts.specs.Texts.{places}
 use Rattle.cbsrun_time_texts.proofs.Places.{digit_at, no_digits, no_places}
 use Rattle.cbsrun_time_texts.proofs.text.append_digits.Goals as goal
 
