@@ -1,7 +1,7 @@
 //! The text about a file with no fault.
 
 ghost use Rattle.std.specs.Prelude.{◌≡◌, ◌++◌, length, map, IfOk, OnOk, string_bytes};
-ghost use Rattle.cbsrun_check_text.specs.Checks.{every_text, fits_text, periods_text, plan_text, numbered, IsPlanText, IsLoadText};
+ghost use Rattle.cbsrun_check_text.specs.Checks.{every_text, fits_text, periods_text, together_text, plan_text, numbered, IsPlanText, IsLoadText};
 
 use crate::fractions::append_fraction;
 use crate::lateness::append_lateness;
@@ -49,21 +49,28 @@ fn append_every(text: &mut String, ticks: u64) -> Result<(), AllocError>
     text.push_str(" ticks.\n")
 }
 
-/// Appends after how many ticks all periods begin together again. If the nanoseconds of a tick are known, the ticks are
-/// told in milliseconds, and so is the tick.
-#[tactic(auto, unfolding(crate::specs::Checks::periods_text))]
-fn append_periods(text: &mut String, tick: Option<u64>, ticks: u64) -> Result<(), AllocError>
+/// Appends after how many milliseconds all periods begin together again, and how long a tick is.
+#[tactic(auto, unfolding(crate::specs::Checks::together_text))]
+fn append_together(text: &mut String, tick: Option<u64>, ticks: u64) -> Result<(), AllocError>
     ensures { OnOk result (string_bytes text.new ≡ string_bytes text.old
-        ++ periods_text tick ticks) }
+        ++ together_text tick ticks) }
 {
-    let Some(_) = tick else {
-        return append_every(text, ticks);
-    };
     text.push_str("The periods come together every ")?;
     append_time(text, tick, ticks)?;
     text.push_str(". A tick is ")?;
     append_time(text, tick, 1)?;
     text.push_str(".\n")
+}
+
+/// Appends after how many ticks all periods begin together again: in milliseconds, if the nanoseconds of a tick are known.
+fn append_periods(text: &mut String, tick: Option<u64>, ticks: u64) -> Result<(), AllocError>
+    ensures { OnOk result (string_bytes text.new ≡ string_bytes text.old
+        ++ periods_text tick ticks) }
+{
+    match tick {
+        None => append_every(text, ticks),
+        Some(_) => append_together(text, tick, ticks),
+    }
 }
 
 /// Appends the text about the servers of a plan, with these names, modes and greatest budgets.

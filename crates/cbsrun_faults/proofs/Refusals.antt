@@ -43,12 +43,12 @@ refused_in top tick entries server bound asked None tick_is bound_is entry_is no
         let why = h.refusal.why in
         cc
 refused_in top tick entries server bound asked (Some r) tick_is bound_is entry_is h named =
-    let t = sym named.1.0 in
-    let b = sym named.1.1 in
+    let t = sym named.1 in
+    let b = sym named.2 in
     let a = sym h.reservation in
     record {
       number = named.0;
-      tick = named.1.0 ∙ tick_is;
+      tick = named.1 ∙ tick_is;
       bound = rw b at bound_is;
       entry = rw (t, a) at entry_is;
       refusal = rw (b, a) at h;

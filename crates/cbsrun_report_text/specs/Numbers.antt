@@ -24,11 +24,12 @@ abbrev pub great_text : Option ℕ → ℕ → List ℕ
 great_text None ticks = decimal ticks
 great_text (Some tick) ticks = if ltb ticks 18446744073709551616 then time_text (Some tick) ticks else decimal ticks ++ codes " ticks"
 
--- a mean of so many tenths of a tick: in milliseconds, if it is less than 10^18 ticks
-abbrev pub mean_part_text : ℕ → ℕ → List ℕ
-mean_part_text tick tenths = if ltb (tenths / 10) 1000000000000000000 then part_text tick tenths 10 else tenths_text tenths ++ codes " ticks"
+-- a mean of numbers of ticks with this sum: in milliseconds, if it is less than 10^18 ticks
+abbrev pub mean_part_text : ℕ → ℕ → ℕ → List ℕ
+mean_part_text tick total count =
+    if ltb (mean_tenths total count / 10) 1000000000000000000 then part_text tick (mean_tenths total count) 10 else mean_text total count ++ codes " ticks"
 
--- the mean of numbers of ticks with this sum
+-- the same, if the nanoseconds of a tick are known and there is a number
 abbrev pub mean_time_text : Option ℕ → ℕ → ℕ → List ℕ
 mean_time_text None total count = mean_text total count
-mean_time_text (Some tick) total count = if eqb count 0 then codes "-" else mean_part_text tick (mean_tenths total count)
+mean_time_text (Some tick) total count = if eqb count 0 then mean_text total count else mean_part_text tick total count

@@ -1,9 +1,9 @@
 //! Cells of the tables. Times are in milliseconds, if the nanoseconds of a tick are known.
 
-ghost use Rattle.std.specs.Prelude.{◌≡◌, ◌++◌, codes, IfOk, string_bytes};
+ghost use Rattle.std.specs.Prelude.{◌≡◌, ◌++◌, ◌<◌, codes, IfOk, string_bytes};
 ghost use Rattle.cbsrun_time_texts.specs.Texts.{amount_text, time_text};
 ghost use Rattle.cbsrun_report_text.specs.Cells.{is_marked, shown_text, cell_of};
-ghost use Rattle.cbsrun_report_text.specs.Numbers.{great_text, mean_part_text, mean_tenths, mean_time_text};
+ghost use Rattle.cbsrun_report_text.specs.Numbers.{great_text, mean_part_text, mean_time_text};
 
 use crate::numbers::{Mean, Percent, append_great};
 use cbsrun_text::{Cell, ToCell};
@@ -93,11 +93,13 @@ fn reserved(
 fn mean_part(alloc: Global, tick: u64, mean: Mean) -> Result<String, AllocError>
     requires { 0 < mean.count }
     ensures { IfOk result (λ text. string_bytes text
-        ≡ mean_part_text tick (mean_tenths mean.total mean.count)) }
+        ≡ mean_part_text tick mean.total mean.count) }
 {
     let (whole, tenths) = mean.parts();
     if whole >= 1_000_000_000_000_000_000 {
-        return format!(in alloc; "{mean} ticks");
+        let mut text = mean.to_string(alloc)?;
+        text.push_str(" ticks")?;
+        return Ok(text);
     }
     let mut text = String::new(alloc);
     append_part(&mut text, tick, (10 * whole + tenths) as u64, 10)?;
@@ -108,10 +110,13 @@ fn mean_part(alloc: Global, tick: u64, mean: Mean) -> Result<String, AllocError>
 fn mean_time(alloc: Global, tick: Option<u64>, mean: Mean) -> Result<String, AllocError>
     ensures { IfOk result (λ text. string_bytes text ≡ mean_time_text tick mean.total mean.count) }
 {
-    match tick {
-        Some(tick) if mean.count > 0 => mean_part(alloc, tick, mean),
-        _ => mean.to_string(alloc),
+    let Some(tick) = tick else {
+        return mean.to_string(alloc);
+    };
+    if mean.count == 0 {
+        return mean.to_string(alloc);
     }
+    mean_part(alloc, tick, mean)
 }
 
 impl Shown<'_> {
