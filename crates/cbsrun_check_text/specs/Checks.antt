@@ -66,14 +66,18 @@ every_text ticks =
     if eqb ticks 1 then codes "The periods come together every tick.\n"
     else codes "The periods come together every " ++ decimal ticks ++ codes " ticks.\n"
 
+-- how long a tick is
+unfoldable pub tick_text : Option ℕ → List ℕ
+tick_text tick = codes ". A tick is " ++ time_text tick 1 ++ codes ".\n"
+
 -- the same in milliseconds, and how long a tick is
 unfoldable pub together_text : Option ℕ → ℕ → List ℕ
-together_text tick ticks =
-    codes "The periods come together every " ++ time_text tick ticks ++ codes ". A tick is " ++ time_text tick 1 ++ codes ".\n"
+together_text tick ticks = codes "The periods come together every " ++ time_text tick ticks ++ tick_text tick
 
 -- in milliseconds, if the nanoseconds of a tick are known
 abbrev pub periods_text : Option ℕ → ℕ → List ℕ
-periods_text tick ticks = elim tick [ None ↦ every_text ticks | Some _ ↦ together_text tick ticks ]
+periods_text None ticks = every_text ticks
+periods_text (Some tick) ticks = together_text (Some tick) ticks
 
 -- the text about servers with these names, modes, rates and greatest budgets
 unfoldable pub plan_text : Option ℕ → List (List ℕ) → List Mode → Planned → List ℕ → List ℕ

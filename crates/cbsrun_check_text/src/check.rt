@@ -1,7 +1,7 @@
 //! The text about a file with no fault.
 
 ghost use Rattle.std.specs.Prelude.{◌≡◌, ◌++◌, length, map, IfOk, OnOk, string_bytes};
-ghost use Rattle.cbsrun_check_text.specs.Checks.{every_text, fits_text, periods_text, together_text, plan_text, numbered, IsPlanText, IsLoadText};
+ghost use Rattle.cbsrun_check_text.specs.Checks.{every_text, fits_text, periods_text, tick_text, together_text, plan_text, numbered, IsPlanText, IsLoadText};
 
 use crate::fractions::append_fraction;
 use crate::lateness::append_lateness;
@@ -49,6 +49,16 @@ fn append_every(text: &mut String, ticks: u64) -> Result<(), AllocError>
     text.push_str(" ticks.\n")
 }
 
+/// Appends how long a tick is.
+#[tactic(auto, unfolding(crate::specs::Checks::tick_text))]
+fn append_tick(text: &mut String, tick: Option<u64>) -> Result<(), AllocError>
+    ensures { OnOk result (string_bytes text.new ≡ string_bytes text.old ++ tick_text tick) }
+{
+    text.push_str(". A tick is ")?;
+    append_time(text, tick, 1)?;
+    text.push_str(".\n")
+}
+
 /// Appends after how many milliseconds all periods begin together again, and how long a tick is.
 #[tactic(auto, unfolding(crate::specs::Checks::together_text))]
 fn append_together(text: &mut String, tick: Option<u64>, ticks: u64) -> Result<(), AllocError>
@@ -57,9 +67,7 @@ fn append_together(text: &mut String, tick: Option<u64>, ticks: u64) -> Result<(
 {
     text.push_str("The periods come together every ")?;
     append_time(text, tick, ticks)?;
-    text.push_str(". A tick is ")?;
-    append_time(text, tick, 1)?;
-    text.push_str(".\n")
+    append_tick(text, tick)
 }
 
 /// Appends after how many ticks all periods begin together again: in milliseconds, if the nanoseconds of a tick are known.

@@ -5,7 +5,7 @@ ghost use Rattle.std.specs.Prelude.{◌≤◌};
 use crate::key_line::{KeyLine, Marked};
 use crate::notes::{append_brackets_help, append_help, append_servers_note};
 use crate::page::Page;
-use crate::values::{BadTime, append_allowed, append_from, append_type, bad_time};
+use crate::values::{BadTime, append_allowed, append_from, append_type, bad_time, may_be_time};
 use cbsrun_faults::{Key, Kind, Spot, Want, nearest_word, server_names, two_numbers};
 use cbsrun_times::{Rounding, ticks_of};
 use std::alloc::{AllocError, Global};
@@ -58,7 +58,10 @@ fn append_short_time(page: &mut Page, bad: BadTime) {
             page.push_number(" and ", ticks.saturating_add(1));
             page.push(" ticks");
         }
-        BadTime::OutOfRange(ticks) => page.push_number("ticks: ", ticks),
+        BadTime::OutOfRange(ticks) => {
+            page.push_number("", ticks);
+            page.push(" ticks");
+        }
     }
 }
 
@@ -173,6 +176,11 @@ fn append_type_help(page: &mut Page, margin: usize, key: Key, value: &Value, spo
     match key.want {
         Want::Tables(_) => append_brackets_help(page, margin, key.name),
         Want::ServerName => append_servers_note(page, margin, spot.document.servers),
+        _ if may_be_time(key, spot) && has_fraction(value) => append_help(
+            page,
+            margin,
+            "a time has its unit, in quotes, as \"7.5 ms\"",
+        ),
         _ if key.is_time() && has_fraction(value) => append_help(
             page,
             margin,

@@ -133,11 +133,11 @@ static FORMAT_TWO: [Key; 6] = [
 
 static LOAD: [Key; 8] = [
     key!("load", Want::Number(1, 1)),
+    optional_key!("tick", Want::Tick),
     key!("bound", Want::Bound),
     key!("backlog", Want::Number(1, MAX_BACKLOG)),
     key!("until", Want::Number(1, LIMIT)),
     optional_key!("seed", Want::Number(0, MAX_INTEGER)),
-    optional_key!("tick", Want::Tick),
     key!("server", Want::Tables(MAX_INTEGER)),
     key!("source", Want::Tables(MAX_SOURCES as u64)),
 ];
