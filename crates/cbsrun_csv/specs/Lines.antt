@@ -21,11 +21,14 @@ abbrev pub state_cell : Option ℕ → List ℕ
 state_cell None = codes ",unfinished\n"
 state_cell (Some finish) = codes ",finished\n"
 
+-- when a job came, when it ended and how long that took
+unfoldable pub time_cells : CsvJob → List ℕ
+time_cells job = cell (Some job.came) ++ cell job.finish ++ cell (response_of job)
+
 -- the line of an accepted job of the server of this name, in a run that ends at a tick
 unfoldable pub job_line : List ℕ → ℕ → CsvJob → List ℕ
 job_line name end job =
-    name ++ cell (Some job.number) ++ cell (Some job.came) ++ cell job.finish ++ cell (response_of job) ++ late_cell (is_late end job)
-    ++ cell (Some job.charged) ++ state_cell job.finish
+    name ++ cell (Some job.number) ++ time_cells job ++ late_cell (is_late end job) ++ cell (Some job.charged) ++ state_cell job.finish
 
 -- the line of a refused job of the server of this name, which came at a tick
 unfoldable pub refused_line : List ℕ → ℕ → List ℕ

@@ -2,7 +2,7 @@
 
 ghost use Rattle.std.specs.Prelude.{◌≡◌, ◌<◌, ◌++◌, OnOk, flat_map, get_or, length, string_bytes};
 ghost use Rattle.cbsrun_csv.specs.Jobs.{unfinished_jobs};
-ghost use Rattle.cbsrun_csv.specs.Lines.{cell, job_line, late_cell, refused_line, server_lines, state_cell};
+ghost use Rattle.cbsrun_csv.specs.Lines.{cell, job_line, late_cell, refused_line, server_lines, state_cell, time_cells};
 
 use crate::job::CsvJob;
 use crate::jobs::Jobs;
@@ -39,6 +39,16 @@ fn state_cell(finish: Option<u64>) -> &'static str
     }
 }
 
+/// Appends the cells of when a job came, when it ended and how long that took.
+#[tactic(auto, unfolding(crate::specs::Lines::time_cells))]
+fn append_times(text: &mut String, job: &CsvJob) -> Result<(), AllocError>
+    ensures { OnOk result (string_bytes text.new ≡ string_bytes text.old ++ time_cells job.now) }
+{
+    append_pair(text, ",", job.came)?;
+    append_cell(text, job.finish)?;
+    append_cell(text, job.response())
+}
+
 /// Appends the line of an accepted job of the server of this name, in a run that ends at the tick `end`.
 #[tactic(auto, unfolding(crate::specs::Lines::job_line))]
 fn append_job(text: &mut String, name: &str, end: u64, job: &CsvJob) -> Result<(), AllocError>
@@ -47,9 +57,7 @@ fn append_job(text: &mut String, name: &str, end: u64, job: &CsvJob) -> Result<(
 {
     text.push_str(name)?;
     append_pair(text, ",", job.number)?;
-    append_pair(text, ",", job.came)?;
-    append_cell(text, job.finish)?;
-    append_cell(text, job.response())?;
+    append_times(text, job)?;
     text.push_str(late_cell(job.is_late(end)))?;
     append_pair(text, ",", job.charged)?;
     text.push_str(state_cell(job.finish))

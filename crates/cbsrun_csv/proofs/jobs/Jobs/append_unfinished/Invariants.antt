@@ -2,7 +2,7 @@ use Rattle.std.proofs.Common.{◌≡◌, ◌++◌, take, string_bytes}
 use Rattle.std.specs.Prelude.{flat_map}
 use Rattle.cbsrun_csv.specs.Jobs.{unfinished_jobs}
 use Rattle.cbsrun_csv.specs.Lines.{job_line}
-use Rattle.cbsrun_csv.proofs.lines.Jobs.append_unfinished.Given as goal
+use Rattle.cbsrun_csv.proofs.jobs.Jobs.append_unfinished.Given as goal
 
 -- the lines of the first jobs
 abbrev pub invariant-loop-place : goal.invariant-loop-place
