@@ -6,8 +6,8 @@ use Rattle.std.specs.List.{range_with_len}
 use Rattle.cbsrun_text.proofs.Texts.{numbered_more}
 use Rattle.cbsrun_events.specs.declared.seen.Seen.{Seen}
 use Rattle.cbsrun_figures.specs.Figures.{steps_of}
-use Rattle.cbsrun_csv.specs.Csv.{IsCsv, csv_text, lines_of}
-use Rattle.cbsrun_csv.specs.Jobs.{JobsSeen, first_charged, jobs_seen, no_jobs, with_charged}
+use Rattle.cbsrun_csv.specs.Csv.{IsCsv, lines_of}
+use Rattle.cbsrun_csv.specs.Jobs.{JobsSeen, first_charged, no_jobs, with_charged}
 use Rattle.cbsrun_csv.specs.Kept.{jobs_at, kept_lines, kept_seen, new_kept}
 use Rattle.cbsrun_csv.specs.Lines.{header, server_lines}
 use Rattle.cbsrun_csv.specs.declared.job.CsvJob.{CsvJob}

@@ -7,8 +7,8 @@ use cbsrun_events::Arrival;
 use cbsrun_figures::exceeds;
 
 /// An accepted job.
-#[derive(Clone, Copy, Debug, PartialEq, Eq)]
-pub struct CsvJob {
+#[derive(Clone, Copy)]
+pub(crate) struct CsvJob {
     /// The number of the job among the accepted jobs of its server, from 0.
     pub number: u64,
     /// The tick at which the job came.
@@ -24,7 +24,7 @@ pub struct CsvJob {
 
 impl CsvJob {
     /// Returns the job that was accepted.
-    pub(crate) fn of(job: Arrival, number: u64) -> CsvJob
+    pub fn of(job: Arrival, number: u64) -> CsvJob
         ensures { result ≡ job_of job number }
     {
         CsvJob {
@@ -37,14 +37,14 @@ impl CsvJob {
     }
 
     /// Returns the job, for whose units the server was charged this many ticks.
-    pub(crate) fn with_charged(self, charged: u64) -> CsvJob
+    pub fn with_charged(self, charged: u64) -> CsvJob
         ensures { result ≡ with_charged charged self }
     {
         CsvJob { charged, ..self }
     }
 
     /// Returns the job, ended at the tick `clock`. For its units the server was charged this many ticks.
-    pub(crate) fn ended(self, clock: u64, charged: u64) -> CsvJob
+    pub fn ended(self, clock: u64, charged: u64) -> CsvJob
         ensures { result ≡ ended clock charged self }
     {
         CsvJob {
@@ -55,7 +55,7 @@ impl CsvJob {
     }
 
     /// Returns the job, whose end a charge of this many ticks put off to the tick `clock`.
-    pub(crate) fn put_off(self, clock: u64, ticks: u64) -> CsvJob
+    pub fn put_off(self, clock: u64, ticks: u64) -> CsvJob
         ensures { result ≡ put_off clock ticks self }
     {
         CsvJob {
@@ -66,7 +66,7 @@ impl CsvJob {
     }
 
     /// Returns how many ticks after its arrival the job ended, or `None` if it is unfinished.
-    pub(crate) fn response(&self) -> Option<u64>
+    pub fn response(&self) -> Option<u64>
         ensures { result ≡ response_of self.now }
     {
         let finish = self.finish?;
@@ -75,7 +75,7 @@ impl CsvJob {
 
     /// Returns whether the job is late, in a run that ends at the tick `end`: it took more ticks than wanted, or is
     /// unfinished and has taken as many already.
-    pub(crate) fn is_late(&self, end: u64) -> bool
+    pub fn is_late(&self, end: u64) -> bool
         ensures { result ≡ is_late end self.now }
     {
         if let Some(response) = self.response() {

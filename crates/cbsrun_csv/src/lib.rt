@@ -6,5 +6,4 @@ mod jobs;
 mod lines;
 mod view;
 
-pub use job::CsvJob;
 pub use view::CsvView;

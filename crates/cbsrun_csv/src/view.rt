@@ -12,7 +12,9 @@ use cbsrun_events::{Seen, View};
 use std::alloc::{AllocError, Global};
 use std::marker::Model;
 
-/// The jobs of servers, from the steps that it sees: a number of bytes for each job that came.
+/// The jobs of servers, from the steps that it sees.
+///
+/// It keeps each job that came: an accepted one as its line tells it, and of a refused one the tick at which it came.
 #[derive(Drop)]
 pub struct CsvView {
     servers: Vec<Jobs>,
@@ -72,8 +74,8 @@ impl CsvView {
     }
 
     /// Returns the CSV of the jobs that came in a run that ends at the tick `end`. The servers have these names, by
-    /// number. A name with a comma, a quotation mark or a line end would make other columns or lines. The only error is
-    /// out of memory.
+    /// number. Names are written as they are: one with a comma or a line end makes other columns or lines. The only
+    /// error is out of memory.
     pub fn text(&self, alloc: Global, names: &[String], end: u64) -> Result<String, AllocError>
         ensures { IfOk result (λ text. (seen : List Seen)
             → self.now ≡ kept_seen (new_kept (length names.now)) seen

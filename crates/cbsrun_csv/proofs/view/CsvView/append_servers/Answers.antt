@@ -1,5 +1,5 @@
-use Rattle.std.proofs.Common.{◌≡◌, ◌∙◌, ◌<◌, ◌++◌, [], ap, ap₂, arith, length, string_bytes, sym}
-use Rattle.std.specs.Prelude.{flat_map, get_or, map}
+use Rattle.std.proofs.Common.{◌≡◌, ◌∙◌, ◌<◌, ◌++◌, ap, ap₂, arith, length, string_bytes, sym}
+use Rattle.std.specs.Prelude.{flat_map, map}
 use Rattle.std.specs.List.{range_with_len}
 use Rattle.cbsrun_text.proofs.Texts.{grown, numbered_more}
 use Rattle.cbsrun_csv.specs.Kept.{jobs_at, kept_lines}
