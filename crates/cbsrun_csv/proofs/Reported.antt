@@ -1,14 +1,14 @@
 -- The jobs are those that a report counts.
-use Rattle.std.proofs.Common.{◌≡◌, ◌∙◌, ℕ, List, [], ◌∷◌, ◌++◌, map, Option, Some, None, refl, ap}
+use Rattle.std.proofs.Common.{◌≡◌, ◌∙◌, ℕ, List, [], ◌∷◌, ◌++◌, length, map, Option, Some, None, arith, refl, ap}
 use Rattle.std.specs.Prelude.{drop, slice_get}
 use Rattle.std.specs.Option.{option_map, option_to_list}
-use Rattle.std.proofs.lemmas.List.{append-nil, map-append}
+use Rattle.std.proofs.lemmas.List.{append-nil, length-append, map-append}
 use Rattle.cbs_steps.specs.declared.reply.Ran.TheVariants as ran
 use Rattle.cbs_steps.specs.declared.view.ServerView.{ServerView}
 use Rattle.cbsrun_events.specs.declared.seen.Event.{Event}
 use Rattle.cbsrun_events.specs.declared.seen.Event.TheVariants as event
 use Rattle.cbsrun_events.specs.declared.seen.Seen.{Seen}
-use Rattle.cbsrun_figures.specs.Figures.{accepted_job, newest, oldest_finished, put_off, settled, waiting}
+use Rattle.cbsrun_figures.specs.Figures.{accepted_job, newest, oldest_finished, put_off, refusals, settled, total, waiting}
 use Rattle.cbsrun_figures.specs.declared.job.AcceptedJob.{AcceptedJob}
 use Rattle.cbsrun_figures.specs.declared.job.Finish.{Finish}
 use Rattle.cbsrun_csv.specs.Csv.{AreAsReported, course_of, finished_course, waiting_course}
@@ -20,6 +20,7 @@ record AreSame (own : List Seen) (js : JobsSeen) : Type 0 where
   settled : map course_of js.finished ≡ map finished_course (settled own)
   newest : option_map course_of js.newest ≡ option_map finished_course (newest own)
   waiting : map course_of js.waiting ≡ map waiting_course (waiting own)
+  refused : length js.refused ≡ total (λ o. refusals o.event) own
 
 -- the newest finished one, after those before it
 more_finished : (xs : List CsvJob) (ys : List Finish) (x : Option CsvJob) (y : Option Finish) → map course_of xs ≡ map finished_course ys
@@ -61,6 +62,10 @@ charge_waiting : (clock n : ℕ) (x : Option CsvJob) (js : JobsSeen) → (jobs_c
 charge_waiting clock n None js = refl
 charge_waiting clock n (Some x) js = refl
 
+charge_refused : (clock n : ℕ) (x : Option CsvJob) (js : JobsSeen) → (jobs_charged clock n x js).refused ≡ js.refused
+charge_refused clock n None js = refl
+charge_refused clock n (Some x) js = refl
+
 charge_newest : (clock n : ℕ) (x : Option CsvJob) (y : Option Finish) (js : JobsSeen) → js.newest ≡ x → option_map course_of x ≡ option_map finished_course y
     → option_map course_of (jobs_charged clock n x js).newest ≡ option_map finished_course (put_off clock y)
 charge_newest clock n None None js is e = rw is refl
@@ -77,42 +82,53 @@ same_after clock (event.Accepted job number promised) v own js was = record {
   settled = was.settled;
   newest = was.newest;
   waiting = more_waiting js.waiting (waiting own) (job_of job number) (accepted_job job promised) was.waiting refl;
+  refused = was.refused;
 }
 same_after clock (event.Ran (ran.Done c)) v own js was = record {
   settled = more_finished js.finished (settled own) js.newest (newest own) was.settled was.newest;
   newest = oldest_ends clock js.charged js.waiting (waiting own) was.waiting;
   waiting = others_wait js.waiting (waiting own) was.waiting;
+  refused = was.refused;
 }
 same_after clock (event.Ran ran.Idle) v own js was = record {
   settled = more_finished js.finished (settled own) js.newest (newest own) was.settled was.newest;
   newest = refl;
   waiting = was.waiting;
+  refused = was.refused;
 }
 same_after clock (event.Ran ran.ClockEnd) v own js was = record {
   settled = more_finished js.finished (settled own) js.newest (newest own) was.settled was.newest;
   newest = refl;
   waiting = was.waiting;
+  refused = was.refused;
 }
 same_after clock (event.Ran (ran.Unit s q)) v own js was = record {
   settled = more_finished js.finished (settled own) js.newest (newest own) was.settled was.newest;
   newest = refl;
   waiting = was.waiting;
+  refused = was.refused;
 }
 same_after clock (event.Charged s n) v own js was = record {
   settled = ap (map course_of) (charge_finished clock n js.newest js) ∙ was.settled;
   newest = charge_newest clock n js.newest (newest own) js refl was.newest;
   waiting = ap (map course_of) (charge_waiting clock n js.newest js) ∙ was.waiting;
+  refused = ap length (charge_refused clock n js.newest js) ∙ was.refused;
 }
-same_after clock (event.NotAccepted job error) v own js was = record { settled = was.settled; newest = was.newest; waiting = was.waiting }
-same_after clock (event.Advanced n) v own js was = record { settled = was.settled; newest = was.newest; waiting = was.waiting }
-same_after clock (event.NotAdvanced n error) v own js was = record { settled = was.settled; newest = was.newest; waiting = was.waiting }
-same_after clock (event.Closed s) v own js was = record { settled = was.settled; newest = was.newest; waiting = was.waiting }
-same_after clock (event.NotClosed s error) v own js was = record { settled = was.settled; newest = was.newest; waiting = was.waiting }
-same_after clock (event.NotCharged s n error) v own js was = record { settled = was.settled; newest = was.newest; waiting = was.waiting }
+same_after clock (event.NotAccepted job error) v own js was = record {
+  settled = was.settled;
+  newest = was.newest;
+  waiting = was.waiting;
+  refused = let one = length-append js.refused (job.came ∷ []) in let before = was.refused in omega arith;
+}
+same_after clock (event.Advanced n) v own js was = record { settled = was.settled; newest = was.newest; waiting = was.waiting; refused = was.refused }
+same_after clock (event.NotAdvanced n error) v own js was = record { settled = was.settled; newest = was.newest; waiting = was.waiting; refused = was.refused }
+same_after clock (event.Closed s) v own js was = record { settled = was.settled; newest = was.newest; waiting = was.waiting; refused = was.refused }
+same_after clock (event.NotClosed s error) v own js was = record { settled = was.settled; newest = was.newest; waiting = was.waiting; refused = was.refused }
+same_after clock (event.NotCharged s n error) v own js was = record { settled = was.settled; newest = was.newest; waiting = was.waiting; refused = was.refused }
 
 -- all steps
 all_same : (own : List Seen) → AreSame own (jobs_seen own)
-all_same [] = record { settled = refl; newest = refl; waiting = refl }
+all_same [] = record { settled = refl; newest = refl; waiting = refl; refused = refl }
 all_same (o ∷ own) = same_after o.clock o.event o.view own (jobs_seen own) (all_same own)
 
 -- what is charged for the first of them changes no course
@@ -127,4 +143,5 @@ as_reported own =
     record {
       finished = more_finished js.finished (settled own) js.newest (newest own) same.settled same.newest;
       unfinished = first_same js.charged js.waiting ∙ same.waiting;
+      refused = same.refused;
     }

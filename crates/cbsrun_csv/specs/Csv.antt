@@ -2,7 +2,7 @@
 use Rattle.std.specs.Prelude.{◌≡◌, ℕ, List, [], ◌++◌, flat_map, get_or, length, map, Option, Some, None}
 use Rattle.std.specs.List.{range_with_len}
 use Rattle.cbsrun_events.specs.declared.seen.Seen.{Seen}
-use Rattle.cbsrun_figures.specs.Figures.{finished, steps_of, waiting}
+use Rattle.cbsrun_figures.specs.Figures.{finished, refusals, steps_of, total, waiting}
 use Rattle.cbsrun_figures.specs.declared.job.AcceptedJob.{AcceptedJob}
 use Rattle.cbsrun_figures.specs.declared.job.Finish.{Finish}
 use Rattle.cbsrun_csv.specs.Jobs.{finished_jobs, jobs_seen, unfinished_jobs}
@@ -33,10 +33,12 @@ finished_course f = record { came = f.job.came; within = f.job.within; finish = 
 abbrev pub waiting_course : AcceptedJob → Course
 waiting_course job = record { came = job.came; within = job.within; finish = None }
 
--- the finished and the unfinished jobs of a server are those that a report counts, in order
+-- the finished and the unfinished jobs of a server are those that a report counts, in order, and the refused ones are as
+-- many
 pub record AreAsReported (own : List Seen) : Type 0 where
   pub finished : map course_of (finished_jobs (jobs_seen own)) ≡ map finished_course (finished own)
   pub unfinished : map course_of (unfinished_jobs (jobs_seen own)) ≡ map waiting_course (waiting own)
+  pub refused : length (jobs_seen own).refused ≡ total (λ o. refusals o.event) own
 
 -- the text is the CSV of what was seen of a run that ends at a tick, whose servers have these names
 pub record IsCsv (names : List (List ℕ)) (end : ℕ) (seen : List Seen) (text : List ℕ) : Type 0 where
