@@ -82,49 +82,49 @@ same_after clock (event.Accepted job number promised) v own js was = record {
   settled = was.settled;
   newest = was.newest;
   waiting = more_waiting js.waiting (waiting own) (job_of job number) (accepted_job job promised) was.waiting refl;
-  refused = was.refused;
+  refused = omega arith;
 }
 same_after clock (event.Ran (ran.Done c)) v own js was = record {
   settled = more_finished js.finished (settled own) js.newest (newest own) was.settled was.newest;
   newest = oldest_ends clock js.charged js.waiting (waiting own) was.waiting;
   waiting = others_wait js.waiting (waiting own) was.waiting;
-  refused = was.refused;
+  refused = omega arith;
 }
 same_after clock (event.Ran ran.Idle) v own js was = record {
   settled = more_finished js.finished (settled own) js.newest (newest own) was.settled was.newest;
   newest = refl;
   waiting = was.waiting;
-  refused = was.refused;
+  refused = omega arith;
 }
 same_after clock (event.Ran ran.ClockEnd) v own js was = record {
   settled = more_finished js.finished (settled own) js.newest (newest own) was.settled was.newest;
   newest = refl;
   waiting = was.waiting;
-  refused = was.refused;
+  refused = omega arith;
 }
 same_after clock (event.Ran (ran.Unit s q)) v own js was = record {
   settled = more_finished js.finished (settled own) js.newest (newest own) was.settled was.newest;
   newest = refl;
   waiting = was.waiting;
-  refused = was.refused;
+  refused = omega arith;
 }
 same_after clock (event.Charged s n) v own js was = record {
   settled = ap (map course_of) (charge_finished clock n js.newest js) ∙ was.settled;
   newest = charge_newest clock n js.newest (newest own) js refl was.newest;
   waiting = ap (map course_of) (charge_waiting clock n js.newest js) ∙ was.waiting;
-  refused = ap length (charge_refused clock n js.newest js) ∙ was.refused;
+  refused = let same = ap length (charge_refused clock n js.newest js) in omega arith;
 }
 same_after clock (event.NotAccepted job error) v own js was = record {
   settled = was.settled;
   newest = was.newest;
   waiting = was.waiting;
-  refused = let one = length-append js.refused (job.came ∷ []) in let before = was.refused in omega arith;
+  refused = let one = length-append js.refused (job.came ∷ []) in omega arith;
 }
-same_after clock (event.Advanced n) v own js was = record { settled = was.settled; newest = was.newest; waiting = was.waiting; refused = was.refused }
-same_after clock (event.NotAdvanced n error) v own js was = record { settled = was.settled; newest = was.newest; waiting = was.waiting; refused = was.refused }
-same_after clock (event.Closed s) v own js was = record { settled = was.settled; newest = was.newest; waiting = was.waiting; refused = was.refused }
-same_after clock (event.NotClosed s error) v own js was = record { settled = was.settled; newest = was.newest; waiting = was.waiting; refused = was.refused }
-same_after clock (event.NotCharged s n error) v own js was = record { settled = was.settled; newest = was.newest; waiting = was.waiting; refused = was.refused }
+same_after clock (event.Advanced n) v own js was = record { settled = was.settled; newest = was.newest; waiting = was.waiting; refused = omega arith }
+same_after clock (event.NotAdvanced n error) v own js was = record { settled = was.settled; newest = was.newest; waiting = was.waiting; refused = omega arith }
+same_after clock (event.Closed s) v own js was = record { settled = was.settled; newest = was.newest; waiting = was.waiting; refused = omega arith }
+same_after clock (event.NotClosed s error) v own js was = record { settled = was.settled; newest = was.newest; waiting = was.waiting; refused = omega arith }
+same_after clock (event.NotCharged s n error) v own js was = record { settled = was.settled; newest = was.newest; waiting = was.waiting; refused = omega arith }
 
 -- all steps
 all_same : (own : List Seen) → AreSame own (jobs_seen own)
