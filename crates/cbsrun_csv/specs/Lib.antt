@@ -1,0 +1,4 @@
+pub mod Csv
+pub mod Jobs
+pub mod Kept
+pub mod Lines
