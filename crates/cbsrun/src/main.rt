@@ -15,8 +15,8 @@ use cbsrun_commands::{
     Action, Asked, BAD_FILE, ByteOutput, DONE, Form, MEMORY_VARIABLE, Progress, RUN_FAULT,
     RunError, ToWrite, WRONG_WORDS, WordsFault, check_bytes_within, draw_load_within,
     draw_tasks_within, memory_bound, read_words, report_bytes_within, run_bytes_within,
-    simulate_bytes_within, simulate_lines_within, size_bytes_within, write_pieces,
-    write_read_fault, write_run_fault,
+    simulate_bytes_within, simulate_jobs_within, simulate_lines_within, size_bytes_within,
+    write_pieces, write_read_fault, write_run_fault,
 };
 use cbsrun_tasks::MEMORY;
 use cbsrun_text_colours::Painted;
@@ -82,8 +82,8 @@ fn answered<R: Threads + Clock + Sync, P: Progress, O: ByteOutput, E: ByteOutput
 {
     let name = asked.file.as_str();
     match asked.action {
-        Action::Check { strict } => {
-            check_bytes_within(alloc, memory, strict, name, bytes, out, err)
+        Action::Check { form, strict } => {
+            check_bytes_within(alloc, memory, form, strict, name, bytes, out, err)
         }
         Action::Size { all } => { size_bytes_within(alloc, memory, all, name, bytes, out, err) }
         Action::ReportLoad(report) => {
@@ -91,6 +91,9 @@ fn answered<R: Threads + Clock + Sync, P: Progress, O: ByteOutput, E: ByteOutput
         }
         Action::WriteLoadLines(changes) => {
             simulate_lines_within(alloc, memory, changes, name, bytes, out, err)
+        }
+        Action::WriteLoadJobs(changes) => {
+            simulate_jobs_within(alloc, memory, changes, name, bytes, progress, out, err)
         }
         Action::DrawLoad(drawing, ticks, changes) => draw_load_within(
             alloc, memory, drawing, ticks, changes, name, bytes, progress, out, err,
@@ -113,7 +116,7 @@ fn may_have_colours(rt: &HostRuntime) -> bool {
 /// Returns whether the output of an action is a text for people.
 fn is_for_people(action: Action) -> bool {
     match action {
-        Action::Check { .. } => true,
+        Action::Check { form, .. } => form == Form::Report,
         Action::ReportLoad(report) => report.form == Form::Report,
         Action::ReportTasks(form) => form == Form::Report,
         _ => false,

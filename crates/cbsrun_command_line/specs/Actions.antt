@@ -16,10 +16,11 @@ name_of Serve = codes "serve"
 
 -- the word of each action
 abbrev pub action_name : Action → List ℕ
-action_name (action.Check strict) = codes "check"
+action_name (action.Check form strict) = codes "check"
 action_name (action.Size all) = codes "size"
 action_name (action.ReportLoad report) = codes "simulate"
 action_name (action.WriteLoadLines changes) = codes "simulate"
+action_name (action.WriteLoadJobs changes) = codes "simulate"
 action_name (action.DrawLoad drawing ticks changes) = codes "simulate"
 action_name (action.ReportTasks form) = codes "replay"
 action_name (action.DrawTasks drawing ticks) = codes "replay"

@@ -77,11 +77,13 @@ IsNumber least greatest (Some text) (Some n) = Spells text n × (least ≤ n) ×
 abbrev pub AsksChanges : Option Text → Option Text → Changes → Type 0
 AsksChanges seed until c = IsNumber 0 9223372036854775807 seed c.seed × IsNumber 1 1000000000000 until c.until
 
--- Which form without ticks an action has. For simulate that is a report, as text if no form is named, or the lines by
--- their name. For replay that is the lines, by their name or if no form is named, or a report by its name.
+-- Which form without ticks an action has. For check and simulate that is a report, as text if no form is named; for
+-- simulate also the lines or the jobs, by their names. For replay that is the lines, by their name or if no form is named, or a report by its name.
 abbrev pub AsksPlain : Option Text → Action → Type 0
+AsksPlain name (action.Check form strict) = MatchOption name (form ≡ Report) (λ n. n ≡ form_name form)
 AsksPlain name (action.ReportLoad report) = MatchOption name (report.form ≡ Report) (λ n. n ≡ form_name report.form)
 AsksPlain name (action.WriteLoadLines changes) = MatchOption name ⊥ (λ n. n ≡ codes "lines")
+AsksPlain name (action.WriteLoadJobs changes) = MatchOption name ⊥ (λ n. n ≡ codes "csv")
 AsksPlain name (action.ReportTasks form) = MatchOption name ⊥ (λ n. n ≡ form_name form)
 AsksPlain name (action.Run Replay) = MatchOption name ⊤ (λ n. n ≡ codes "lines")
 AsksPlain name _ = ⊥
@@ -89,20 +91,20 @@ AsksPlain name _ = ⊥
 -- which changes of a load an action has, and whether its status tells the answer: only check and a report of a load may.
 -- Whether each server is to get a reservation
 abbrev pub AsksRest : Said → Action → Type 0
-AsksRest s (action.Check strict) = strict ≡ is_given s.strict
+AsksRest s (action.Check form strict) = strict ≡ is_given s.strict
 AsksRest s (action.Size all) = all ≡ is_given s.all
 AsksRest s (action.ReportLoad report) = AsksChanges s.seed s.until report.changes × (report.strict ≡ is_given s.strict)
 AsksRest s (action.WriteLoadLines changes) = AsksChanges s.seed s.until changes × (is_given s.strict ≡ false)
+AsksRest s (action.WriteLoadJobs changes) = AsksChanges s.seed s.until changes × (is_given s.strict ≡ false)
 AsksRest s (action.DrawLoad drawing ticks changes) = AsksChanges s.seed s.until changes × (is_given s.strict ≡ false)
 AsksRest s _ = ⊤
 
--- The form that the options ask for. A drawing has ticks, and the other forms have none. Check, size and serve have one
--- form
+-- The form that the options ask for. A drawing has ticks, and the other forms have none. Size and serve have one form
 abbrev pub AsksForm : Said → Action → Type 0
 AsksForm s (action.DrawLoad drawing ticks changes) = (s.form ≡ Some (drawing_name drawing)) × AsksTicks s.from s.to ticks
 AsksForm s (action.DrawTasks drawing ticks) = (s.form ≡ Some (drawing_name drawing)) × AsksTicks s.from s.to ticks
 AsksForm s (action.Run Serve) = ⊤
-AsksForm s (action.Check strict) = ⊤
+AsksForm s (action.Check form strict) = AsksPlain s.form (action.Check form strict)
 AsksForm s (action.Size all) = ⊤
 AsksForm s a = AsksPlain s.form a × (s.from ≡ None) × (s.to ≡ None)
 

@@ -47,7 +47,7 @@ bare_program = required (with_version (new_app (codes "cbsrun")))
 
 -- the verb that checks a file
 abbrev pub checking : App
-checking = with_flag (on_file (codes "check")) (codes "strict")
+checking = with_flag (with_option (on_file (codes "check")) (codes "as")) (codes "strict")
 
 -- the verb that sizes a sketch
 abbrev pub sizing : App

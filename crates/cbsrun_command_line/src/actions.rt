@@ -20,7 +20,7 @@ pub enum Verb {
     Serve,
 }
 
-/// The form in which a report is written.
+/// The form in which a report, or what `check` tells, is written.
 #[derive(Clone, Copy, Debug, PartialEq, Eq)]
 pub enum Form {
     /// Text, for people.
@@ -68,6 +68,8 @@ pub struct LoadReport {
 pub enum Action {
     /// The text on what the servers of a file have and could have, and which jobs of a load are always in time.
     Check {
+        /// The form of what is told.
+        form: Form,
         /// Whether the status is 1 if the jobs of a source are not promised to be in time.
         strict: bool,
     },
@@ -80,6 +82,8 @@ pub enum Action {
     ReportLoad(LoadReport),
     /// The simulation of a load with these changes, with a line for each step.
     WriteLoadLines(Changes),
+    /// The simulation of a load with these changes, with a line of CSV for each job.
+    WriteLoadJobs(Changes),
     /// The simulation of a load with these changes, with a drawing of these ticks.
     DrawLoad(Drawing, Window, Changes),
     /// The replay of a task file, with a report in this form.

@@ -110,8 +110,8 @@ fn drawing_of(form: Option<&str>) -> Option<Drawing>
 }
 
 /// Returns the action of `simulate` with these options for a form that shows no ticks. Without a form, this is the report
-/// as text. Returns `None` if no such form has this name, if a number is out of its range, or if the lines are to be
-/// strict.
+/// as text. Returns `None` if no such form has this name, if a number is out of its range, or if the lines or the jobs are
+/// to be strict.
 fn simulated_as(options: Options<'_>) -> Option<Action>
     ensures { Finds result (AsksPlainly (codes "simulate") (said options.entry)) }
 {
@@ -119,8 +119,9 @@ fn simulated_as(options: Options<'_>) -> Option<Action>
     let strict = is_given(options.strict);
     let form = match options.form {
         None => Form::Report,
-        Some("lines") if strict => return None,
+        Some("lines" | "csv") if strict => return None,
         Some("lines") => return Some(Action::WriteLoadLines(changes)),
+        Some("csv") => return Some(Action::WriteLoadJobs(changes)),
         Some(name) => form_of(name)?,
     };
     Some(Action::ReportLoad(LoadReport {
@@ -182,14 +183,25 @@ fn replayed_with(options: Options<'_>) -> Option<Action>
     replayed_as(options)
 }
 
+/// Returns the action of `check` with these options. Without a form, this is the text. Returns `None` if no such form has
+/// this name.
+fn checked_with(options: Options<'_>) -> Option<Action>
+    ensures { Finds result (AsksFor (codes "check") (said options.entry)) }
+{
+    let strict = is_given(options.strict);
+    let form = match options.form {
+        None => Form::Report,
+        Some(name) => form_of(name)?,
+    };
+    Some(Action::Check { form, strict })
+}
+
 /// Returns the action of the command with this name and these options, or `None` if there is none.
 pub(crate) fn action_of(name: &str, options: Options<'_>) -> Option<Action>
     ensures { Finds result (AsksFor name.now (said options.entry)) }
 {
     match name {
-        "check" => Some(Action::Check {
-            strict: is_given(options.strict),
-        }),
+        "check" => checked_with(options),
         "size" => Some(Action::Size {
             all: is_given(options.all),
         }),
@@ -251,14 +263,21 @@ fn append_no_ticks(
     }
 }
 
-/// Appends that no form has this name.
-fn append_no_form(text: &mut String, form: Option<&str>) -> Result<(), AllocError> {
+/// Returns the names of the forms of a command.
+fn forms_of(verb: &str) -> &'static str {
+    match verb {
+        "check" => "report, json",
+        "simulate" => "report, json, text, svg, trace, lines, csv",
+        _ => "lines, report, json, text, svg, trace",
+    }
+}
+
+/// Appends that no form of a command has this name.
+fn append_no_form(text: &mut String, verb: &str, form: Option<&str>) -> Result<(), AllocError> {
     let form = form.unwrap_or("");
+    let forms = forms_of(verb);
     writeln!(text, "error: invalid value '{form}' for '--as <FORMAT>'")?;
-    writeln!(
-        text,
-        "  [possible values: lines, report, json, text, svg, trace]"
-    )
+    writeln!(text, "  [possible values: {forms}]")
 }
 
 /// Appends why a command has no action with these options, whose numbers for a load are in their ranges.
@@ -274,7 +293,7 @@ fn append_wrong_form(
         ..options
     };
     if action_of(verb, unlimited).is_none() {
-        return append_no_form(text, options.form);
+        return append_no_form(text, verb, options.form);
     }
     if is_given(options.strict) {
         return writeln!(

@@ -87,6 +87,10 @@ pub(crate) const CHECK: &str =
     "Says what the servers of a file have and could have, and which jobs of a load \
 are in time always; or what is wrong with the file";
 
+pub(crate) const CHECKS: &str =
+    "What is written: report (text, for people) or json (the same for programs) \
+[default: report]";
+
 pub(crate) const SIZE: &str =
     "Writes a load with a reservation for each server that has none: the one of least share that \
 promises its jobs in time";
@@ -94,7 +98,7 @@ promises its jobs in time";
 pub(crate) const ALL: &str = "Each server gets a reservation, also if it has one";
 
 pub(crate) const SIMULATE: &str =
-    "Releases the jobs of a load's sources, runs them, and reports, draws, or writes a line for each step";
+    "Releases the jobs of a load's sources, runs them, and reports, draws, or writes a line for each step or job";
 
 pub(crate) const REPLAY: &str =
     "Runs the steps of a task file, and writes a line for each, reports, or draws";
@@ -105,8 +109,8 @@ and writes the results of each server";
 
 pub(crate) const REPORTS: &str =
     "What is written: report (figures of each server), json (the same for programs), \
-text (a timeline), svg (a picture), trace (for ui.perfetto.dev) or lines (one for \
-each step) [default: report]";
+text (a timeline), svg (a picture), trace (for ui.perfetto.dev), lines (one for \
+each step) or csv (one for each job) [default: report]";
 
 pub(crate) const TRACES: &str =
     "What is written: lines (one for each step), report (figures of each server), \

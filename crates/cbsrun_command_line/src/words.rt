@@ -11,7 +11,7 @@ use crate::actions::Asked;
 use crate::fault::WordsFault;
 use crate::options::{Options, action_of, wrong_options};
 use crate::texts::{
-    ABOUT, ALL, CHECK, FILES, FROM, GUIDE, IN_TIME, PROMISED, REPLAY, REPORTS, SEED, SERVE,
+    ABOUT, ALL, CHECK, CHECKS, FILES, FROM, GUIDE, IN_TIME, PROMISED, REPLAY, REPORTS, SEED, SERVE,
     SIMULATE, SIZE, TO, TRACES, UNTIL, VERSION,
 };
 use clap::error::ErrorKind;
@@ -82,6 +82,7 @@ fn checking<'a>(alloc: Global) -> Result<Command<'a>, AllocError>
     ensures local { IfOk result (λ c. (out-Command c).has_globals ≡ false) }
 {
     let verb = on_file(alloc, "check", CHECK)?;
+    let verb = with_option(alloc, verb, "as", "FORMAT", CHECKS)?;
     with_flag(alloc, verb, "strict", PROMISED)
 }
 

@@ -8,7 +8,9 @@ use Rattle.cbsrun_simulate.specs.declared.terms.SourceTerms.{SourceTerms}
 use Rattle.cbsrun_sizing.specs.Budgets.{is_within}
 use Rattle.cbsrun_sizing.specs.ServerLoads.{AreServerLoads, no_load}
 use Rattle.cbsrun_sizing.specs.declared.server_load.ServerLoad.{ServerLoad}
+use Rattle.cbsrun_check_json.specs.Json.{IsCheckJson, IsPlanJson}
 use Rattle.cbsrun_check_text.specs.Checks.{IsLoadText, IsPlanText}
+use Rattle.cbsrun_csv.specs.Csv.{IsCsv}
 use Rattle.cbsrun_tasks.specs.Spelling.{file}
 use Rattle.cbsrun_loads.specs.Spelling.{is_load, load}
 use Rattle.cbsrun_commands.specs.declared.check.AnyFile.{AnyFile}
@@ -51,6 +53,16 @@ abbrev pub IsCheckText : AnyFile → List ℕ → Type 0
 IsCheckText (Load f) text = IsLoadText f text
 IsCheckText (Tasks f) text = IsPlanText f.plan f.modes text
 
+-- the text is what `check` prints about the file in this form, and names the file so
+abbrev pub IsCheckIn : Form → List ℕ → AnyFile → List ℕ → Type 0
+IsCheckIn Report name f text = IsCheckText f text
+IsCheckIn Json name (Load f) text = IsCheckJson name f text
+IsCheckIn Json name (Tasks f) text = IsPlanJson name f.plan f.modes text
+
+-- the command that prints what it finds in a file of either kind
+abbrev pub check_command : Form → List ℕ → Command AnyFile
+check_command form name = printing_command any_file (IsCheckIn form name)
+
 -- whether so many ticks are promised that they are at most the wanted ones
 abbrev pub is_promised : Result ℕ NotPromised → Option ℕ → Bool
 is_promised (Err why) within = false
@@ -89,6 +101,14 @@ IsNotSized all k = (why : NotSized) × IsWhyNot k all why
 -- the command that writes the lines of a load while they are made
 abbrev pub lines_command : Changes → Command LoadFile
 lines_command changes = record { read = changed_load changes; prints = AreLoadLines; short = λ f. WritesSomeLines (seen_in f); nothing = λ f e. ⊥ }
+
+-- the text is the CSV of the jobs of the load. What is told of each load holds of this one
+abbrev pub IsJobsText : LoadFile → List ℕ → Type 0
+IsJobsText f text = IsCsv f.names f.until (seen_in f) text × IsKept f
+
+-- the command that prints the jobs of a load
+abbrev pub jobs_command : Changes → Command LoadFile
+jobs_command changes = printing_command (changed_load changes) IsJobsText
 
 -- a report in a form
 abbrev pub text_in : Form → RunReport → List ℕ

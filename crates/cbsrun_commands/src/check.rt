@@ -5,13 +5,16 @@ ghost use Rattle.cbsrun_sizing.specs.ServerLoads.{no_load};
 ghost use Rattle.cbsrun_commands.specs.declared.check.AnyFile.{AnyFile};
 ghost use Rattle.cbsrun_toml_tables.specs.Documents.{no_memory};
 ghost use Rattle.cbsrun_toml_tables.specs.Fields.{Gives};
-ghost use Rattle.cbsrun_commands.specs.Outputs.{all_promised, any_file, is_promised, ArePromised, AreSourcesPromised, IsCheckText};
-ghost use Rattle.cbsrun_commands.specs.Commands.{Does, EndsByAnswer, printing_command};
+ghost use Rattle.cbsrun_commands.specs.Outputs.{all_promised, any_file, check_command, is_promised, ArePromised, AreSourcesPromised, IsCheckIn, IsCheckText};
+ghost use Rattle.cbsrun_commands.specs.Commands.{Does, EndsByAnswer};
+ghost use Rattle.cbsrun_command_line.specs.declared.actions.Form.TheVariants.{Json};
 ghost use Rattle.cbsrun_lines.specs.Writers.{MayWrite};
 
 use crate::ending::{Stopped, print, status_by_answer};
 use cbs_guarantee::NotPromised;
+use cbsrun_check_json::{check_json, check_plan_json};
 use cbsrun_check_text::{check_load, check_plan};
+use cbsrun_command_line::Form;
 use cbsrun_io::ByteOutput;
 use cbsrun_loads::{Load, load_in};
 use cbsrun_simulate::SourceTerms;
@@ -47,6 +50,26 @@ fn check_text(alloc: Global, file: &AnyFile) -> Result<String, AllocError>
     match file {
         AnyFile::Load(load) => check_load(alloc, load),
         AnyFile::Tasks(file) => check_plan(alloc, file.plan(), file.modes()),
+    }
+}
+
+/// Returns what `check` tells of a file as JSON, which names the file so.
+fn check_object(alloc: Global, name: &str, file: &AnyFile) -> Result<String, AllocError>
+    ensures { IfOk result (λ text. IsCheckIn Json name.now file.now (string_bytes text)) }
+{
+    match file {
+        AnyFile::Load(load) => check_json(alloc, name, load),
+        AnyFile::Tasks(file) => check_plan_json(alloc, name, file.plan(), file.modes()),
+    }
+}
+
+/// Returns what `check` prints about a file in this form.
+fn told(alloc: Global, form: Form, name: &str, file: &AnyFile) -> Result<String, AllocError>
+    ensures { IfOk result (λ text. IsCheckIn form name.now file.now (string_bytes text)) }
+{
+    match form {
+        Form::Report => check_text(alloc, file),
+        Form::Json => check_object(alloc, name, file),
     }
 }
 
@@ -95,29 +118,31 @@ fn are_promised(alloc: Global, file: &AnyFile) -> Result<bool, AllocError>
     }
 }
 
-/// Prints the text that `check` prints about the file that the bytes spell. Returns whether the jobs of each source are
+/// Prints what `check` tells of the file that the bytes spell, in this form. Returns whether the jobs of each source are
 /// promised to be in time.
 fn check<O: ByteOutput>(
     alloc: Global,
     memory: u64,
+    form: Form,
+    name: &str,
     bytes: &[u8],
     out: &mut O,
 ) -> Result<bool, Stopped>
     requires { MayWrite (O.state out.old) }
-    ensures printed { Does (printing_command any_file IsCheckText) bytes.now result
+    ensures printed { Does (check_command form name.now) bytes.now result
         (O.state out.old) (O.state out.new) }
     ensures answer { IfOk result (λ answer. (f : AnyFile) × (any_file bytes.now ≡ Ok f)
         × ArePromised f answer) }
 {
     let file = read_any(alloc, memory, bytes)?;
-    let text = check_text(alloc, &file)?;
+    let text = told(alloc, form, name, &file)?;
     let promised = are_promised(alloc, &file)?;
     print(&text, out)?;
     Ok(promised)
 }
 
-/// Checks the load or the task file that the bytes spell, and prints what it holds. The bytes are a load if the top
-/// table has the key `load`. The explanation of a fault names the file `name`. Returns the status.
+/// Checks the load or the task file that the bytes spell, and prints what it holds, in this form. The bytes are a load if
+/// the top table has the key `load`. JSON and the explanation of a fault name the file `name`. Returns the status.
 ///
 /// At status 0 the whole text is on `out`, or a prefix of it if a write found a closed pipe, and nothing on `err`. At
 /// status 3 the file has a fault: the line of the fault goes to `err`, with an explanation below it, and nothing to
@@ -132,6 +157,7 @@ fn check<O: ByteOutput>(
 pub fn check_bytes_within<O: ByteOutput, E: ByteOutput>(
     alloc: Global,
     memory: u64,
+    form: Form,
     strict: bool,
     name: &str,
     bytes: &[u8],
@@ -140,11 +166,11 @@ pub fn check_bytes_within<O: ByteOutput, E: ByteOutput>(
 ) -> u8
     requires out { MayWrite (O.state out.old) }
     requires err { MayWrite (E.state err.old) }
-    ensures { EndsByAnswer (printing_command any_file IsCheckText) ArePromised strict
+    ensures { EndsByAnswer (check_command form name.now) ArePromised strict
         name.now bytes.now (O.closed out.new)
         (O.state out.old) (O.state out.new) (E.state err.old) (E.state err.new) result }
 {
-    let ended = check(alloc, memory, bytes, out);
+    let ended = check(alloc, memory, form, name, bytes, out);
     status_by_answer(
         alloc,
         memory,

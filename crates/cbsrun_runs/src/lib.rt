@@ -2,6 +2,7 @@
 //! picture.
 #![tactic(auto)]
 
+mod jobs;
 mod load_steps;
 mod picture;
 mod progress;
@@ -13,6 +14,7 @@ mod task_steps;
 mod within;
 
 pub use cbsrun_window::{NothingShown, shown_of};
+pub use jobs::csv_of;
 pub use load_steps::show_load;
 pub use picture::picture_of;
 pub use progress::{NoProgress, Progress};

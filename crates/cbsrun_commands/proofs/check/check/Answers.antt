@@ -2,7 +2,7 @@ use Rattle.std.proofs.Common.{◌∙◌, subst, sym, List, ℕ}
 use Rattle.std.proofs.lemmas.Result.{err_from_is_err_and}
 use Rattle.cbsrun_lines.proofs.Writers.{untouched}
 use Rattle.cbsrun_lines.specs.Writers.{IsUntouched}
-use Rattle.cbsrun_commands.specs.Outputs.{IsCheckText}
+use Rattle.cbsrun_commands.specs.Outputs.{IsCheckIn}
 use Rattle.cbsrun_commands.proofs.Endings.{stops_as}
 use Rattle.cbsrun_commands.proofs.check.check.Goals as goal
 
@@ -27,7 +27,7 @@ returns-in_err-print-clause-printed g c =
     rw (p.1, p.2) (
       c.in_ok-file.file,
       c.in_ok-file.ensures,
-      stops_as _ _ (λ t e. subst (λ (x : List ℕ). IsCheckText c.in_ok-file.file x) (sym (e ∙ c.deref.ensures)) c.in_ok-text.ensures) IsUntouched _ _ _
+      stops_as _ _ (λ t e. subst (λ (x : List ℕ). IsCheckIn c.args.form c.args.name.now c.in_ok-file.file x) (sym (e ∙ c.deref.ensures)) c.in_ok-text.ensures) IsUntouched _ _ _
           c.in_err-print.ensures,
     )
 
@@ -37,7 +37,7 @@ returns-clause-printed g c =
       c.in_ok-file.file,
       p.0,
       c.in_ok-file.ensures,
-      subst (λ (x : List ℕ). IsCheckText c.in_ok-file.file x) (sym (p.1 ∙ c.deref.ensures)) c.in_ok-text.ensures,
+      subst (λ (x : List ℕ). IsCheckIn c.args.form c.args.name.now c.in_ok-file.file x) (sym (p.1 ∙ c.deref.ensures)) c.in_ok-text.ensures,
       p.2,
     )
 
