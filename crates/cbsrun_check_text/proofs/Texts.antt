@@ -54,3 +54,9 @@ pub pushed : (r : Result (Unit {0}) AllocError) (new old word whole : List ℕ) 
     → OnOk r (new ≡ whole)
 pushed (Ok x) new old word whole e f = e ∙ f
 pushed (Err x) new old word whole e f = tt
+
+-- what a text is after a last part is appended
+pub appended : (r : Result (Unit {0}) AllocError) (new old part whole : List ℕ) → OnOk r (new ≡ old ++ part) → old ++ part ≡ whole
+    → OnOk r (new ≡ whole)
+appended (Ok x) new old part whole e f = e ∙ f
+appended (Err x) new old part whole e f = tt

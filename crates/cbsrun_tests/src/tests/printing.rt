@@ -6,7 +6,8 @@ use super::fakes::{Memory, Outcome};
 use super::same;
 use cbsrun_commands::{
     Changes, Drawing, Form, LoadReport, NoProgress, Window, check_bytes_within, draw_load_within,
-    draw_tasks_within, report_bytes_within, simulate_bytes_within, simulate_lines_within,
+    draw_tasks_within, report_bytes_within, simulate_bytes_within, simulate_jobs_within,
+    simulate_lines_within,
 };
 use std::alloc::Global;
 use std::process::Abort;
@@ -72,9 +73,10 @@ error: `format` is 3, and has to be 1 or 2
 /// The request for a file.
 #[derive(Clone, Copy)]
 enum Asked {
-    Check { strict: bool },
+    Check { form: Form, strict: bool },
     ReportLoad { form: Form, strict: bool },
     WriteLoadLines,
+    WriteLoadJobs,
     ReportTasks(Form),
     DrawLoad(Drawing, Window),
     DrawTasks(Drawing, Window),
@@ -94,8 +96,8 @@ fn printed(alloc: Global, asked: Asked, memory: u64, file: &str, mut out: Memory
     let bytes = file.as_bytes();
     let name = "a.toml";
     let status = match asked {
-        Asked::Check { strict } => {
-            check_bytes_within(alloc, memory, strict, name, bytes, &mut out, &mut err)
+        Asked::Check { form, strict } => {
+            check_bytes_within(alloc, memory, form, strict, name, bytes, &mut out, &mut err)
         }
         Asked::ReportLoad { form, strict } => {
             simulate_bytes_within(
@@ -116,6 +118,16 @@ fn printed(alloc: Global, asked: Asked, memory: u64, file: &str, mut out: Memory
         Asked::WriteLoadLines => {
             simulate_lines_within(alloc, memory, NONE, name, bytes, &mut out, &mut err)
         }
+        Asked::WriteLoadJobs => simulate_jobs_within(
+            alloc,
+            memory,
+            NONE,
+            name,
+            bytes,
+            &mut NoProgress,
+            &mut out,
+            &mut err,
+        ),
         Asked::ReportTasks(form) => {
             report_bytes_within(alloc, memory, form, name, bytes, &mut out, &mut err)
         }
@@ -148,14 +160,20 @@ type Printed = (Asked, &'static str, [&'static str; 3]);
 
 /// What is asked beside drawings. The whole answers are in `tests/checks.txt` and `tests/reports.txt`, at the top of the
 /// repository.
-const PRINTED: [Printed; 6] = [
+const PRINTED: [Printed; 9] = [
     (
-        Asked::Check { strict: true },
+        Asked::Check {
+            form: Form::Report,
+            strict: true,
+        },
         LOAD,
         ["fits: 1/2", "a       soft", "yes, by 2\n"],
     ),
     (
-        Asked::Check { strict: true },
+        Asked::Check {
+            form: Form::Report,
+            strict: true,
+        },
         TASKS,
         ["fits: 1/2", "server 0  soft", "every 2 ticks.\n"],
     ),
@@ -166,6 +184,31 @@ const PRINTED: [Printed; 6] = [
         },
         LOAD,
         ["in time: ", "a.toml, ticks 0 to 4: 2 run", "1   1.0\n"],
+    ),
+    (
+        Asked::Check {
+            form: Form::Json,
+            strict: true,
+        },
+        LOAD,
+        ["{\"backlog\":2", "\"file\":\"a.toml\"", "}\n"],
+    ),
+    (
+        Asked::Check {
+            form: Form::Json,
+            strict: true,
+        },
+        TASKS,
+        ["{", "\"name\":\"server 0\"", "}\n"],
+    ),
+    (
+        Asked::WriteLoadJobs,
+        LOAD,
+        [
+            "server,job,came,",
+            "a,0,0,1,1,0,0,finished\n",
+            "a,1,2,3,1,0,0,finished\n",
+        ],
     ),
     (
         Asked::WriteLoadLines,
@@ -244,7 +287,14 @@ fn a_writer_that_fails_has_a_prefix(rt: HostRuntime) {
     let alloc = rt.alloc();
     let some = ticks(&rt, 0, 4);
     for (asked, file, prefix) in &[
-        (Asked::Check { strict: false }, LOAD, "fits:"),
+        (
+            Asked::Check {
+                form: Form::Report,
+                strict: false,
+            },
+            LOAD,
+            "fits:",
+        ),
         (
             Asked::ReportLoad {
                 form: Form::Json,
@@ -254,6 +304,7 @@ fn a_writer_that_fails_has_a_prefix(rt: HostRuntime) {
             "{\"bac",
         ),
         (Asked::WriteLoadLines, LOAD, "@0 su"),
+        (Asked::WriteLoadJobs, LOAD, "serve"),
         (Asked::ReportTasks(Form::Report), TASKS, "in ti"),
         (Asked::DrawLoad(Drawing::Svg, some), LOAD, "<svg "),
         (Asked::DrawTasks(Drawing::Trace, some), TASKS, "{\"dis"),
@@ -267,7 +318,13 @@ fn a_strict_answer_is_not_told_by_a_closed_pipe(rt: HostRuntime) {
     let alloc = rt.alloc();
     let form = Form::Report;
     for (asked, prefix) in &[
-        (Asked::Check { strict: true }, "fits:"),
+        (
+            Asked::Check {
+                form: Form::Report,
+                strict: true,
+            },
+            "fits:",
+        ),
         (Asked::ReportLoad { form, strict: true }, "in ti"),
     ] {
         let pipe = Memory::pipe(alloc, 5);
@@ -303,7 +360,13 @@ fn a_fault_is_explained_if_there_is_memory(rt: HostRuntime) {
     let load = ("load = 2\n", LOAD_EXPLAINED);
     let tasks = ("format = 3\nstep = []\n", TASKS_EXPLAINED);
     for (asked, (file, explained)) in &[
-        (Asked::Check { strict: true }, load),
+        (
+            Asked::Check {
+                form: Form::Report,
+                strict: true,
+            },
+            load,
+        ),
         (
             Asked::ReportLoad {
                 form: Form::Report,
@@ -312,6 +375,7 @@ fn a_fault_is_explained_if_there_is_memory(rt: HostRuntime) {
             load,
         ),
         (Asked::WriteLoadLines, load),
+        (Asked::WriteLoadJobs, load),
         (Asked::ReportTasks(Form::Report), tasks),
         (Asked::DrawLoad(Drawing::Text, some), load),
         (Asked::DrawTasks(Drawing::Svg, some), tasks),

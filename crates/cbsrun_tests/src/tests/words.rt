@@ -71,9 +71,15 @@ const JSON: Action = Action::ReportLoad(LoadReport {
     strict: false,
 });
 
+/// The action that checks a file, as text.
+const CHECK: Action = Action::Check {
+    form: Form::Report,
+    strict: false,
+};
+
 /// Command lines with a verb and a file, and what they ask for.
 const VERBS: [(&str, Action); 5] = [
-    ("cbsrun check a.toml", Action::Check { strict: false }),
+    ("cbsrun check a.toml", CHECK),
     ("cbsrun size a.toml", Action::Size { all: false }),
     ("cbsrun simulate a.toml", REPORT),
     ("cbsrun replay a.toml", Action::Run(Verb::Replay)),
@@ -84,15 +90,26 @@ const VERBS: [(&str, Action); 5] = [
 fn a_verb_and_a_file_are_wanted(rt: HostRuntime) {
     let alloc = rt.alloc();
     all_ask(&rt, alloc, &VERBS, "a.toml");
-    let check = Action::Check { strict: false };
-    asks(&rt, alloc, "cbsrun check -", check, "-");
-    asks(&rt, alloc, "cbsrun check -- -V", check, "-V");
+    asks(&rt, alloc, "cbsrun check -", CHECK, "-");
+    asks(&rt, alloc, "cbsrun check -- -V", CHECK, "-V");
     refuses(&rt, alloc, "", 1, "Usage");
     refuses(&rt, alloc, "cbsrun --help", 2, "Help");
 }
 
 /// Command lines with a form, and what they ask for.
-const FORMS: [(&str, Action); 6] = [
+const FORMS: [(&str, Action); 9] = [
+    ("cbsrun check --as report a.toml", CHECK),
+    (
+        "cbsrun check a.toml --as=json",
+        Action::Check {
+            form: Form::Json,
+            strict: false,
+        },
+    ),
+    (
+        "cbsrun simulate --as csv a.toml",
+        Action::WriteLoadJobs(NONE),
+    ),
     ("cbsrun simulate --as report a.toml", REPORT),
     ("cbsrun simulate a.toml --as json", JSON),
     (
@@ -187,7 +204,10 @@ const CHANGED: [(&str, Action); 5] = [
     ),
     (
         "cbsrun check --strict a.toml",
-        Action::Check { strict: true },
+        Action::Check {
+            form: Form::Report,
+            strict: true,
+        },
     ),
     ("cbsrun size a.toml --all", Action::Size { all: true }),
 ];
