@@ -1,0 +1,8 @@
+//! What `check` tells of a load, as JSON.
+#![tactic(auto)]
+
+mod json;
+mod server;
+mod source;
+
+pub use json::check_json;

@@ -1,0 +1,8 @@
+//! Objects of JSON, put together key by key.
+#![tactic(auto)]
+
+mod members;
+mod scalar;
+
+pub use members::{ToJson, object_of, put_all};
+pub use scalar::{Scalar, told};
