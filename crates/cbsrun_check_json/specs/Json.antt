@@ -1,7 +1,8 @@
--- What `check` tells of a load, as JSON.
-use Rattle.std.specs.Prelude.{◌≡◌, ℕ, Bool, false, List, [], ◌∷◌, ◌++◌, codes, get_or, length, map, Option, Some, None, Result, Ok, Err}
+-- What `check` tells of a load, as JSON: its keys, and the value of each key.
+use Rattle.std.specs.Prelude.{◌≡◌, ℕ, ◌+◌, ◌*◌, Bool, true, false, leb, List, [], ◌∷◌, ◌++◌, codes, get_or, length, map, Option, Some, None, Result, Ok, Err, IfSome}
 use Rattle.std.specs.List.{list_all, range_with_len}
-use Rattle.serde_json.specs.Data.{Data, null, boolean, string, array, object, no_members, put}
+use Rattle.std.specs.Result.{result_ok}
+use Rattle.serde_json.specs.Data.{Data, null, boolean, string, array, object, Members, no_members}
 use Rattle.serde_json.specs.View.{items_of}
 use Rattle.serde_json.specs.Written.{compact_text}
 use Rattle.cbs_guarantee.specs.Parts.{rate_at}
@@ -11,119 +12,172 @@ use Rattle.cbs_rate.specs.Plan.{common_multiple}
 use Rattle.cbs_rate.specs.Rate.{Rate}
 use Rattle.cbs_rules.specs.declared.mode.Mode.{Mode}
 use Rattle.cbs_rules.specs.declared.mode.Mode.TheVariants.{Soft}
-use Rattle.cbsrun_json.specs.Members.{object_of, pair_data, whole, whole_if, with_members}
-use Rattle.cbsrun_json.specs.declared.members.Scalar.{Scalar}
-use Rattle.cbsrun_json.specs.declared.members.Scalar.TheVariants as scalar
+use Rattle.cbsrun_json.specs.Members.{object_of, pair_data, pair_if, long_if, text_if, told, whole, whole_if, with_members}
+use Rattle.cbsrun_json.specs.declared.scalar.Scalar.{Scalar}
+use Rattle.cbsrun_json.specs.declared.scalar.Scalar.TheVariants as scalar
 use Rattle.cbsrun_loads.specs.Loads.{LoadFile}
 use Rattle.cbsrun_proposals.specs.declared.remedy.Proposal.{Proposal}
 use Rattle.cbsrun_proposals.specs.declared.remedy.Remedy.{Remedy}
 use Rattle.cbsrun_simulate.specs.Bounds.{Bounds}
 use Rattle.cbsrun_simulate.specs.declared.terms.SourceTerms.{SourceTerms}
 use Rattle.cbsrun_sizing.specs.Budgets.{reserved, is_within, AreGreatest}
-use Rattle.cbsrun_sizing.specs.Lateness.{greatest_delay}
-use Rattle.cbsrun_sizing.specs.ServerLoads.{no_load, AreServerLoads}
+use Rattle.cbsrun_sizing.specs.Lateness.{greatest_delay, BoundsLateness}
+use Rattle.cbsrun_sizing.specs.Recoveries.{recovery, IsMadeUpWithin}
+use Rattle.cbsrun_sizing.specs.ServerLoads.{least_within, no_load, AreServerLoads}
+use Rattle.cbsrun_sizing.specs.declared.asked.Asked.{Asked}
 use Rattle.cbsrun_sizing.specs.declared.server_load.ServerLoad.{ServerLoad}
 use Rattle.cbsrun_text.specs.Numbers.{mode_word}
 
--- the word for the reason why jobs are not promised
-abbrev pub reason_word : NotPromised → List ℕ
-reason_word why.AsksTooMuch = codes "asks_too_much"
-reason_word (why.BacklogTooSmall needed) = codes "backlog_too_small"
-reason_word why.SharedOverrun = codes "shared_overrun"
-reason_word why.LateOverrun = codes "late_overrun"
-reason_word why.BeyondLimits = codes "beyond_limits"
+-- the word for the reason why jobs are not promised in time: they are promised, but too late, or not at all
+abbrev pub reason_word : Result ℕ NotPromised → List ℕ
+reason_word (Ok time) = codes "too_late"
+reason_word (Err why.AsksTooMuch) = codes "asks_too_much"
+reason_word (Err (why.BacklogTooSmall needed)) = codes "backlog_too_small"
+reason_word (Err why.SharedOverrun) = codes "shared_overrun"
+reason_word (Err why.LateOverrun) = codes "late_overrun"
+reason_word (Err why.BeyondLimits) = codes "beyond_limits"
 
--- the backlog that the jobs need, if their own is too small
-abbrev pub needed_of : NotPromised → Option ℕ
-needed_of (why.BacklogTooSmall needed) = Some needed
-needed_of _ = None
+-- .. if they are not
+abbrev pub reason_of : Bool → Result ℕ NotPromised → Option (List ℕ)
+reason_of true promised = None
+reason_of false promised = Some (reason_word promised)
 
--- within how many ticks jobs are finished, if that is promised
-abbrev pub finished_within : Result ℕ NotPromised → Option ℕ
-finished_within (Ok time) = Some time
-finished_within (Err why) = None
+-- the backlog that the jobs need, if theirs is too small
+abbrev pub needed_backlog : Result ℕ NotPromised → Option ℕ
+needed_backlog (Err (why.BacklogTooSmall needed)) = Some needed
+needed_backlog _ = None
 
--- why jobs are not promised, or null if they are
-unfoldable pub why_data : Result ℕ NotPromised → Data
-why_data (Ok time) = null
-why_data (Err why) =
-    object_of ((codes "reason", string (reason_word why)) ∷ (codes "needed_backlog", whole_if (needed_of why)) ∷ [])
+-- each job is promised, and in time
+abbrev pub is_in_time : Result ℕ NotPromised → Option ℕ → Bool
+is_in_time (Ok time) within = is_within time within
+is_in_time (Err why) within = false
 
--- a remedy with this backlog and this reservation, beside which so much fits at its period
-unfoldable pub remedy_of : Option ℕ → Option Proposal → ℕ → Data
-remedy_of backlog None room = object_of ((codes "backlog", whole_if backlog) ∷ [])
-remedy_of backlog (Some p) room = object_of (
-    (codes "backlog", whole_if backlog)
-    ∷ (codes "budget", whole p.budget)
+-- a proposal, and whether it fits if so much fits at its period
+unfoldable pub proposal_data : Option Proposal → ℕ → Data
+proposal_data None room = null
+proposal_data (Some p) room = object_of (
+    (codes "budget", whole p.budget)
     ∷ (codes "period", whole p.period)
     ∷ (codes "greatest_budget", whole room)
+    ∷ (codes "fits", boolean (leb p.budget room))
     ∷ [])
 
 -- what would do, or null if the reservation and the backlog do
 unfoldable pub remedy_data : Option Remedy → ℕ → Data
 remedy_data None room = null
-remedy_data (Some r) room = remedy_of r.backlog r.reservation room
+remedy_data (Some r) room =
+    object_of ((codes "backlog", whole_if r.backlog) ∷ (codes "reservation", proposal_data r.reservation room) ∷ [])
 
--- a server with this name, mode and reservation, this greatest budget that fits, and these figures of its sources
-unfoldable pub server_data : List ℕ → Mode → Rate → ℕ → ServerLoad → Data
-server_data name mode rate greatest load =
-    object (put (codes "remedy") (remedy_data load.remedy load.room) (put (codes "not_promised") (why_data load.promised) (with_members (
+-- the ticks that are asked for, in every so many, if that is summed
+abbrev pub asked_pair : Option Asked → Option (ℕ × ℕ)
+asked_pair None = None
+asked_pair (Some a) = Some (told a.ticks, a.of)
+
+-- the jobs of a server are promised in time, with its own reservation and backlog
+abbrev pub needs_none : Option Remedy → Bool
+needs_none None = true
+needs_none (Some r) = false
+
+-- the members that say what a server has, and could have
+unfoldable pub server_terms : List ℕ → Mode → Rate → ℕ → Members
+server_terms name mode rate greatest = with_members (
     (codes "name", string name)
     ∷ (codes "mode", string (mode_word mode))
     ∷ (codes "budget", whole rate.budget)
     ∷ (codes "period", whole rate.period)
     ∷ (codes "greatest_budget", whole greatest)
-    ∷ (codes "finished_within", whole_if (finished_within load.promised))
-    ∷ []) no_members)))
+    ∷ []) no_members
+
+-- the members, with what is told of the sources of a server, of which `within` is the least that is wanted
+unfoldable pub with_figures : Option ℕ → ServerLoad → Members → Members
+with_figures within l ms = with_members (
+    (codes "asked", pair_if (asked_pair l.asked))
+    ∷ (codes "within", whole_if within)
+    ∷ (codes "finished_within", whole_if (result_ok l.promised))
+    ∷ (codes "in_time_always", boolean (needs_none l.remedy))
+    ∷ (codes "reason", text_if (reason_of (needs_none l.remedy) l.promised))
+    ∷ (codes "needed_backlog", whole_if (needed_backlog l.promised))
+    ∷ (codes "remedy", remedy_data l.remedy l.room)
+    ∷ []) ms
+
+-- the object of a server
+unfoldable pub server_data : List ℕ → Mode → Rate → ℕ → Option ℕ → ServerLoad → Data
+server_data name mode rate greatest within load = object (with_figures within load (server_terms name mode rate greatest))
 
 -- a range as its least and its greatest number
 abbrev pub range_scalar : Bounds → Scalar
 range_scalar r = scalar.Pair r.least r.greatest
 
--- a source of a server with this name, whose jobs are in time always or not
-unfoldable pub source_data : List ℕ → Bool → SourceTerms → Data
-source_data name in_time t = object_of (
+-- a source of a server with this name, of which so much is promised. It asks for the most ticks of a job in the least
+-- ticks to the next
+unfoldable pub source_data : List ℕ → Result ℕ NotPromised → SourceTerms → Data
+source_data name promised t = object_of (
     (codes "server", string name)
     ∷ (codes "every", pair_data t.every.least t.every.greatest)
     ∷ (codes "units", pair_data t.units.least t.units.greatest)
     ∷ (codes "overrun", pair_data t.overrun.least t.overrun.greatest)
+    ∷ (codes "asked", pair_data (told (t.units.greatest * (1 + t.overrun.greatest))) t.every.least)
     ∷ (codes "within", whole_if t.within)
-    ∷ (codes "in_time_always", boolean in_time)
+    ∷ (codes "finished_within", whole_if (result_ok promised))
+    ∷ (codes "in_time_always", boolean (is_in_time promised t.within))
+    ∷ (codes "reason", text_if (reason_of (is_in_time promised t.within) promised))
     ∷ [])
 
--- each job of a source is promised in time, by the figures of the servers
-abbrev pub is_in_time : List ServerLoad → SourceTerms → Bool
-is_in_time loads t = elim (get_or loads t.server no_load).promised [ Ok time ↦ is_within time t.within | Err why ↦ false ]
+-- what is promised of the jobs of server s
+abbrev pub promised_for : List ServerLoad → ℕ → Result ℕ NotPromised
+promised_for loads s = (get_or loads s no_load).promised
 
 -- server s of a load, by the greatest budgets of its servers and the figures of their sources
 abbrev pub server_at : LoadFile → List ℕ → List ServerLoad → ℕ → Data
 server_at f budgets loads s =
-    server_data (get_or f.names s []) (get_or f.modes s Soft) (rate_at f.plan.rates s) (get_or budgets s 0) (get_or loads s no_load)
+    server_data (get_or f.names s []) (get_or f.modes s Soft) (rate_at f.plan.rates s) (get_or budgets s 0) (least_within f.sources s)
+    (get_or loads s no_load)
 
 -- all servers
 abbrev pub servers_data : LoadFile → List ℕ → List ServerLoad → List Data
 servers_data f budgets loads = map (server_at f budgets loads) (range_with_len 0 (length f.plan.rates))
 
--- all sources
-abbrev pub sources_data : LoadFile → List ServerLoad → List Data
-sources_data f loads = map (λ t. source_data (get_or f.names t.server []) (is_in_time loads t) t) f.sources
+-- a source of a load
+abbrev pub source_of : LoadFile → List ServerLoad → SourceTerms → Data
+source_of f loads t = source_data (get_or f.names t.server []) (promised_for loads t.server) t
 
--- what is told of a load in a file of this name. Its key `check` is the version of this object
-unfoldable pub check_data : List ℕ → LoadFile → List ℕ → List ServerLoad → Data
-check_data name f budgets loads =
-    object (put (codes "sources") (array (items_of (sources_data f loads))) (put (codes "servers") (array (items_of (servers_data f budgets loads))) (with_members (
+-- each job of each source is promised, and in time
+abbrev pub all_in_time : List ServerLoad → List SourceTerms → Bool
+all_in_time loads sources = list_all (λ t. is_in_time (promised_for loads t.server) t.within) sources
+
+-- the members that say what a load in a file of this name has reserved. The key `check` is the version of the object
+unfoldable pub load_terms : List ℕ → LoadFile → Members
+load_terms name f = with_members (
     (codes "check", whole 1)
     ∷ (codes "file", string name)
     ∷ (codes "unit", string (codes "tick"))
     ∷ (codes "backlog", whole f.backlog)
     ∷ (codes "bound", pair_data f.plan.bound.num f.plan.bound.den)
     ∷ (codes "reserved", pair_data (reserved f.plan.rates) (common_multiple f.plan.rates))
-    ∷ (codes "late_by_at_most", whole (greatest_delay f))
-    ∷ (codes "in_time_always", boolean (list_all (is_in_time loads) f.sources))
-    ∷ []) no_members)))
+    ∷ []) no_members
 
--- the text is the object of a load in a file of this name, on one line
-abbrev pub IsCheckJson : List ℕ → LoadFile → List ℕ → Type 0
-IsCheckJson name f text =
-    (budgets : List ℕ) × (loads : List ServerLoad) × AreGreatest f.plan (length f.plan.rates) budgets
-    × AreServerLoads f (length f.plan.rates) loads × (text ≡ compact_text (check_data name f budgets loads) ++ codes "\n")
+-- the members, with what is promised of the jobs of a load
+unfoldable pub with_promises : LoadFile → List ℕ → List ServerLoad → Members → Members
+with_promises f budgets loads ms = with_members (
+    (codes "in_time_always", boolean (all_in_time loads f.sources))
+    ∷ (codes "late_by_at_most", whole (greatest_delay f))
+    ∷ (codes "made_up_within", long_if (recovery f))
+    ∷ (codes "servers", array (items_of (servers_data f budgets loads)))
+    ∷ (codes "sources", array (items_of (map (source_of f loads) f.sources)))
+    ∷ []) ms
+
+-- the object of a load in a file of this name, by the greatest budgets of its servers and the figures of their sources
+unfoldable pub check_data : List ℕ → LoadFile → List ℕ → List ServerLoad → Data
+check_data name f budgets loads = object (with_promises f budgets loads (load_terms name f))
+
+-- the object of a load in a file of this name, on one line, with the greatest budget of each server, the demand of its
+-- sources, and what is promised for them. No server is ever later than it says, and what one unit overruns is made up as
+-- soon as it says
+pub record IsCheckJson (name : List ℕ) (f : LoadFile) (text : List ℕ) : Type 0 where
+  pub budgets : List ℕ
+  pub loads : List ServerLoad
+  pub greatest : AreGreatest f.plan (length f.plan.rates) budgets
+  pub told_of : AreServerLoads f (length f.plan.rates) loads
+  pub late : BoundsLateness f (greatest_delay f)
+  pub made_up : IfSome (recovery f) (IsMadeUpWithin f)
+  pub text_is : text ≡ compact_text (check_data name f budgets loads) ++ codes "\n"

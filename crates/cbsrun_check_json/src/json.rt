@@ -1,31 +1,22 @@
 //! The whole object.
 
-ghost use Rattle.std.specs.Prelude.{◌≡◌, ◌<◌, length, map, IfOk, string_bytes};
-ghost use Rattle.std.specs.List.{list_all};
-ghost use Rattle.serde_json.specs.View.{view};
-ghost use Rattle.cbsrun_check_json.specs.Json.{check_data, is_in_time, server_at, servers_data, sources_data, IsCheckJson};
+ghost use Rattle.std.specs.Prelude.{◌≡◌, ◌<◌, length, map, IfOk, OnOk, string_bytes};
+ghost use Rattle.serde_json.specs.View.{view, members_view};
+ghost use Rattle.cbsrun_check_json.specs.Json.{check_data, load_terms, server_at, servers_data, source_of, with_promises, IsCheckJson};
 
+use crate::promises::{all_in_time, promised_for};
 use crate::server::{Told, server_value};
 use crate::source::source_value;
 use cbsrun_json::{Scalar, put_all};
 use cbsrun_loads::Load;
 use cbsrun_simulate::SourceTerms;
-use cbsrun_sizing::{ServerLoad, greatest_budgets, greatest_delay, is_within, server_loads};
+use cbsrun_sizing::{
+    ServerLoad, greatest_budgets, greatest_delay, least_within, recovery, server_loads,
+};
 use serde_json::{Map, Value, put};
 use std::alloc::{AllocError, Global};
 
-/// Returns whether each job of a source is promised in time, by the figures of the servers.
-fn is_in_time(loads: &[ServerLoad], terms: &SourceTerms) -> bool
-    requires { terms.now.server < length loads.now }
-    ensures { result ≡ is_in_time loads.now terms.now }
-{
-    match loads[usize::from(terms.server)].promised {
-        Ok(time) => is_within(time, terms.within),
-        Err(_) => false,
-    }
-}
-
-/// Returns the object of a server of a load.
+/// Returns the object of a server of a load. The only error is out of memory.
 fn server_at(
     alloc: Global,
     load: &Load,
@@ -33,24 +24,24 @@ fn server_at(
     loads: &[ServerLoad],
     server: u16,
 ) -> Result<Value, AllocError>
-    requires server { server < length load.now.plan.rates }
+    requires held { server < length load.now.plan.rates }
     requires budgets { length budgets.now ≡ length load.now.plan.rates }
     requires loads { length loads.now ≡ length load.now.plan.rates }
     ensures { IfOk result (λ v. view v ≡ server_at load.now budgets.now loads.now server) }
 {
-    let at = usize::from(server);
-    let names = load.names();
+    let place = usize::from(server);
     let told = Told {
-        name: &names[at],
+        name: load.names()[place].as_str(),
         mode: load.modes().get(server).unwrap(),
         reservation: load.plan().get(server).unwrap(),
-        greatest_budget: budgets[at],
-        load: loads[at],
+        greatest_budget: budgets[place],
+        within: least_within(load.sources(), server),
+        load: loads[place],
     };
     server_value(alloc, told)
 }
 
-/// Returns the object of each server of a load.
+/// Returns the object of each server of a load. The only error is out of memory.
 fn servers_values(
     alloc: Global,
     load: &Load,
@@ -70,47 +61,42 @@ fn servers_values(
     Ok(values)
 }
 
-/// Returns the object of each source of a load.
+/// Returns the object of a source of a load. The only error is out of memory.
+fn source_of(
+    alloc: Global,
+    load: &Load,
+    loads: &[ServerLoad],
+    terms: &SourceTerms,
+) -> Result<Value, AllocError>
+    requires { terms.now.server < length load.now.plan.rates }
+    ensures { IfOk result (λ v. view v ≡ source_of load.now loads.now terms.now) }
+{
+    let name = load.names()[usize::from(terms.server)].as_str();
+    source_value(alloc, name, promised_for(loads, terms.server), terms)
+}
+
+/// Returns the object of each source of a load. The only error is out of memory.
 fn sources_values(
     alloc: Global,
     load: &Load,
     loads: &[ServerLoad],
 ) -> Result<Vec<Value>, AllocError>
-    requires { length loads.now ≡ length load.now.plan.rates }
-    ensures { IfOk result (λ values. map view values.items ≡ sources_data load.now loads.now) }
+    ensures { IfOk result (λ values. map view values.items
+        ≡ map (source_of load.now loads.now) load.now.sources) }
 {
     let mut values = Vec::new(alloc);
     for terms in load.sources() {
-        let name = &load.names()[usize::from(terms.server)];
-        values.push(source_value(alloc, name, terms, is_in_time(loads, terms))?)?;
+        values.push(source_of(alloc, load, loads, terms)?)?;
     }
     Ok(values)
 }
 
-/// Returns whether each job of each source is promised in time.
-fn all_in_time(load: &Load, loads: &[ServerLoad]) -> bool
-    requires { length loads.now ≡ length load.now.plan.rates }
-    ensures { result ≡ list_all (is_in_time loads.now) load.now.sources }
+/// Returns what a load in the file `name` has reserved, as the members of an object. The only error is out of memory.
+#[tactic(auto, unfolding(crate::specs::Json::load_terms))]
+fn load_terms(alloc: Global, name: &str, load: &Load) -> Result<Map<String, Value>, AllocError>
+    ensures { IfOk result (λ members. members_view members.entries
+        ≡ load_terms name.now load.now) }
 {
-    load.sources().iter().all(|terms| is_in_time(loads, terms))
-}
-
-/// Returns the object of a load in the file `name`, by the greatest budgets of its servers and the figures of their
-/// sources.
-#[tactic(auto, unfolding(crate::specs::Json::check_data))]
-fn check_value(
-    alloc: Global,
-    name: &str,
-    load: &Load,
-    budgets: &[u64],
-    loads: &[ServerLoad],
-) -> Result<Value, AllocError>
-    requires budgets { length budgets.now ≡ length load.now.plan.rates }
-    requires loads { length loads.now ≡ length load.now.plan.rates }
-    ensures { IfOk result (λ v. view v ≡ check_data name.now load.now budgets.now loads.now) }
-{
-    let servers = servers_values(alloc, load, budgets, loads)?;
-    let sources = sources_values(alloc, load, loads)?;
     let bound = load.plan().bound();
     let reserved = load.plan().bandwidth();
     let mut members = Map::new(alloc);
@@ -124,12 +110,59 @@ fn check_value(
             ("backlog", Scalar::Whole(load.backlog())),
             ("bound", Scalar::Pair(bound.num(), bound.den())),
             ("reserved", Scalar::Pair(reserved.ticks, reserved.of)),
-            ("late_by_at_most", Scalar::Whole(greatest_delay(load))),
-            ("in_time_always", Scalar::Is(all_in_time(load, loads))),
         ],
     )?;
-    put(&mut members, alloc, "servers", Value::from(servers))?;
-    put(&mut members, alloc, "sources", Value::from(sources))?;
+    Ok(members)
+}
+
+/// Puts what is promised of the jobs of a load among members, by the greatest budgets of its servers and the figures of
+/// their sources. The only error is out of memory.
+#[tactic(auto, unfolding(crate::specs::Json::with_promises))]
+fn put_promises(
+    alloc: Global,
+    members: &mut Map<String, Value>,
+    load: &Load,
+    budgets: &[u64],
+    loads: &[ServerLoad],
+) -> Result<(), AllocError>
+    requires budgets { length budgets.now ≡ length load.now.plan.rates }
+    requires loads { length loads.now ≡ length load.now.plan.rates }
+    ensures { OnOk result (members_view members.new.entries
+        ≡ with_promises load.now budgets.now loads.now (members_view members.old.entries)) }
+{
+    let servers = servers_values(alloc, load, budgets, loads)?;
+    let sources = sources_values(alloc, load, loads)?;
+    let in_time = all_in_time(loads, load.sources());
+    put_all(
+        alloc,
+        members,
+        &[
+            ("in_time_always", Scalar::Is(in_time)),
+            ("late_by_at_most", Scalar::Whole(greatest_delay(load))),
+            ("made_up_within", Scalar::LongIf(recovery(load))),
+        ],
+    )?;
+    put(members, alloc, "servers", Value::from(servers))?;
+    put(members, alloc, "sources", Value::from(sources))?;
+    Ok(())
+}
+
+/// Returns the object of a load in the file `name`, by the greatest budgets of its servers and the figures of their
+/// sources. The only error is out of memory.
+#[tactic(auto, unfolding(crate::specs::Json::check_data))]
+fn check_value(
+    alloc: Global,
+    name: &str,
+    load: &Load,
+    budgets: &[u64],
+    loads: &[ServerLoad],
+) -> Result<Value, AllocError>
+    requires budgets { length budgets.now ≡ length load.now.plan.rates }
+    requires loads { length loads.now ≡ length load.now.plan.rates }
+    ensures { IfOk result (λ v. view v ≡ check_data name.now load.now budgets.now loads.now) }
+{
+    let mut members = load_terms(alloc, name, load)?;
+    put_promises(alloc, &mut members, load, budgets, loads)?;
     Ok(Value::Object(members))
 }
 

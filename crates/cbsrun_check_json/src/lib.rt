@@ -2,6 +2,7 @@
 #![tactic(auto)]
 
 mod json;
+mod promises;
 mod server;
 mod source;
 

@@ -1,15 +1,15 @@
 //! The object of one server.
 
-ghost use Rattle.std.specs.Prelude.{◌≡◌, IfOk};
-ghost use Rattle.serde_json.specs.View.{view};
-ghost use Rattle.cbsrun_check_json.specs.Json.{needed_of, reason_word, remedy_data, server_data, why_data};
+ghost use Rattle.std.specs.Prelude.{◌≡◌, IfOk, OnOk};
+ghost use Rattle.serde_json.specs.View.{view, members_view};
+ghost use Rattle.cbsrun_check_json.specs.Json.{asked_pair, needs_none, proposal_data, remedy_data, server_data, server_terms, with_figures};
 
-use cbs_guarantee::NotPromised;
+use crate::promises::{needed_backlog, reason_of};
 use cbs_rate::Reservation;
 use cbs_rules::Mode;
-use cbsrun_json::{Scalar, object_of, put_all};
-use cbsrun_proposals::Remedy;
-use cbsrun_sizing::ServerLoad;
+use cbsrun_json::{Scalar, object_of, put_all, told};
+use cbsrun_proposals::{Proposal, Remedy};
+use cbsrun_sizing::{Asked, ServerLoad};
 use cbsrun_text::mode_word;
 use serde_json::{Map, Value, put};
 use std::alloc::{AllocError, Global};
@@ -17,80 +17,81 @@ use std::alloc::{AllocError, Global};
 /// What is told of a server.
 #[derive(Clone, Copy)]
 pub(crate) struct Told<'a> {
+    /// Its name.
     pub name: &'a str,
+    /// Its mode.
     pub mode: Mode,
+    /// Its reservation.
     pub reservation: Reservation,
+    /// The greatest budget that it could have at its period.
     pub greatest_budget: u64,
+    /// The least number of ticks within which one of its sources wants its jobs finished, if it has a source.
+    pub within: Option<u64>,
+    /// The figures of its sources.
     pub load: ServerLoad,
 }
 
-/// Returns the word for the reason why the jobs of a server are not promised.
-fn reason_word(why: NotPromised) -> &'static str
-    ensures { result.now ≡ reason_word why }
+/// Returns a proposal, and whether it fits if so much fits at its period, or null if there is none. The only error is out
+/// of memory.
+#[tactic(auto, unfolding(crate::specs::Json::proposal_data))]
+fn proposal_value(alloc: Global, proposal: Option<Proposal>, room: u64) -> Result<Value, AllocError>
+    ensures { IfOk result (λ v. view v ≡ proposal_data proposal room) }
 {
-    match why {
-        NotPromised::AsksTooMuch => "asks_too_much",
-        NotPromised::BacklogTooSmall { .. } => "backlog_too_small",
-        NotPromised::SharedOverrun => "shared_overrun",
-        NotPromised::LateOverrun => "late_overrun",
-        NotPromised::BeyondLimits => "beyond_limits",
-    }
-}
-
-/// Returns the backlog that the jobs of a server need, if their own is too small.
-fn needed_of(why: NotPromised) -> Option<u64>
-    ensures { result ≡ needed_of why }
-{
-    match why {
-        NotPromised::BacklogTooSmall { needed } => Some(needed),
-        _ => None,
-    }
-}
-
-/// Returns why the jobs of a server are not promised, or null if they are. The only error is out of memory.
-#[tactic(auto, unfolding(crate::specs::Json::why_data))]
-fn why_value(alloc: Global, promised: Result<u64, NotPromised>) -> Result<Value, AllocError>
-    ensures { IfOk result (λ v. view v ≡ why_data promised) }
-{
-    let Err(why) = promised else {
+    let Some(proposal) = proposal else {
         return Ok(Value::Null);
     };
     object_of(
         alloc,
         &[
-            ("reason", Scalar::Text(reason_word(why))),
-            ("needed_backlog", Scalar::WholeIf(needed_of(why))),
+            ("budget", Scalar::Whole(proposal.budget)),
+            ("period", Scalar::Whole(proposal.period)),
+            ("greatest_budget", Scalar::Whole(room)),
+            ("fits", Scalar::Is(proposal.budget <= room)),
         ],
     )
 }
 
 /// Returns what would do for a server, or null if its reservation and backlog do. The only error is out of memory.
-#[tactic(auto, unfolding(crate::specs::Json::remedy_data, crate::specs::Json::remedy_of))]
+#[tactic(auto, unfolding(crate::specs::Json::remedy_data))]
 fn remedy_value(alloc: Global, remedy: Option<Remedy>, room: u64) -> Result<Value, AllocError>
     ensures { IfOk result (λ v. view v ≡ remedy_data remedy room) }
 {
     let Some(remedy) = remedy else {
         return Ok(Value::Null);
     };
-    let Some(proposal) = remedy.reservation else {
-        return object_of(alloc, &[("backlog", Scalar::WholeIf(remedy.backlog))]);
-    };
-    object_of(
+    let proposal = proposal_value(alloc, remedy.reservation, room)?;
+    let mut members = Map::new(alloc);
+    put_all(
         alloc,
-        &[
-            ("backlog", Scalar::WholeIf(remedy.backlog)),
-            ("budget", Scalar::Whole(proposal.budget)),
-            ("period", Scalar::Whole(proposal.period)),
-            ("greatest_budget", Scalar::Whole(room)),
-        ],
-    )
+        &mut members,
+        &[("backlog", Scalar::WholeIf(remedy.backlog))],
+    )?;
+    put(&mut members, alloc, "reservation", proposal)?;
+    Ok(Value::Object(members))
 }
 
-/// Returns the object of a server. The only error is out of memory.
-#[tactic(auto, unfolding(crate::specs::Json::server_data))]
-pub(crate) fn server_value(alloc: Global, told: Told<'_>) -> Result<Value, AllocError>
-    ensures { IfOk result (λ v. view v ≡ server_data told.entry.name.now told.entry.mode
-        told.entry.reservation told.entry.greatest_budget told.entry.load) }
+/// Returns the ticks that are asked for, and in how many ticks, if that is summed.
+fn asked_pair(asked: Option<Asked>) -> Option<(u64, u64)>
+    ensures { result ≡ asked_pair asked }
+{
+    match asked {
+        Some(asked) => Some((told(asked.ticks), asked.of)),
+        None => None,
+    }
+}
+
+/// Returns whether no remedy is needed.
+fn needs_none(remedy: Option<Remedy>) -> bool
+    ensures { result ≡ needs_none remedy }
+{
+    remedy.is_none()
+}
+
+/// Puts what a server has, and could have, into an empty object. The only error is out of memory.
+#[tactic(auto, unfolding(crate::specs::Json::server_terms))]
+fn server_terms(alloc: Global, told: Told<'_>) -> Result<Map<String, Value>, AllocError>
+    ensures { IfOk result (λ members. members_view members.entries ≡ server_terms
+        told.entry.name.now told.entry.mode told.entry.reservation told.entry.greatest_budget) }
 {
     let mut members = Map::new(alloc);
     put_all(
@@ -102,12 +103,51 @@ pub(crate) fn server_value(alloc: Global, told: Told<'_>) -> Result<Value, Alloc
             ("budget", Scalar::Whole(told.reservation.budget())),
             ("period", Scalar::Whole(told.reservation.period())),
             ("greatest_budget", Scalar::Whole(told.greatest_budget)),
-            ("finished_within", Scalar::WholeIf(told.load.promised.ok())),
         ],
     )?;
-    let why = why_value(alloc, told.load.promised)?;
-    put(&mut members, alloc, "not_promised", why)?;
-    let remedy = remedy_value(alloc, told.load.remedy, told.load.room)?;
-    put(&mut members, alloc, "remedy", remedy)?;
+    Ok(members)
+}
+
+/// Puts what is told of the sources of a server among its members. `within` is the least that one of them wants. The only
+/// error is out of memory.
+#[tactic(auto, unfolding(crate::specs::Json::with_figures))]
+fn put_figures(
+    alloc: Global,
+    members: &mut Map<String, Value>,
+    within: Option<u64>,
+    load: ServerLoad,
+) -> Result<(), AllocError>
+    ensures { OnOk result (members_view members.new.entries
+        ≡ with_figures within load (members_view members.old.entries)) }
+{
+    let in_time = needs_none(load.remedy);
+    let remedy = remedy_value(alloc, load.remedy, load.room)?;
+    put_all(
+        alloc,
+        members,
+        &[
+            ("asked", Scalar::PairIf(asked_pair(load.asked))),
+            ("within", Scalar::WholeIf(within)),
+            ("finished_within", Scalar::WholeIf(load.promised.ok())),
+            ("in_time_always", Scalar::Is(in_time)),
+            ("reason", Scalar::TextIf(reason_of(in_time, load.promised))),
+            (
+                "needed_backlog",
+                Scalar::WholeIf(needed_backlog(load.promised)),
+            ),
+        ],
+    )?;
+    put(members, alloc, "remedy", remedy)?;
+    Ok(())
+}
+
+/// Returns the object of a server. The only error is out of memory.
+#[tactic(auto, unfolding(crate::specs::Json::server_data))]
+pub(crate) fn server_value(alloc: Global, told: Told<'_>) -> Result<Value, AllocError>
+    ensures { IfOk result (λ v. view v ≡ server_data told.entry.name.now told.entry.mode
+        told.entry.reservation told.entry.greatest_budget told.entry.within told.entry.load) }
+{
+    let mut members = server_terms(alloc, told)?;
+    put_figures(alloc, &mut members, told.within, told.load)?;
     Ok(Value::Object(members))
 }
