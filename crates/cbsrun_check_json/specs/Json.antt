@@ -1,5 +1,5 @@
--- What `check` tells of a load, as JSON: its keys, and the value of each key.
-use Rattle.std.specs.Prelude.{◌≡◌, ℕ, ◌+◌, ◌*◌, Bool, true, false, leb, List, [], ◌∷◌, ◌++◌, codes, get_or, length, map, Option, Some, None, Result, Ok, Err, IfSome}
+-- What `check` tells of a file with no fault, as JSON: its keys, and the value of each key.
+use Rattle.std.specs.Prelude.{◌≡◌, ℕ, ◌+◌, ◌*◌, Bool, true, false, leb, List, [], ◌∷◌, ◌++◌, codes, decimal, get_or, length, map, Option, Some, None, Result, Ok, Err, IfSome}
 use Rattle.std.specs.List.{list_all, range_with_len}
 use Rattle.std.specs.Result.{result_ok}
 use Rattle.serde_json.specs.Data.{Data, null, boolean, string, array, object, Members, no_members}
@@ -8,7 +8,7 @@ use Rattle.serde_json.specs.Written.{compact_text}
 use Rattle.cbs_guarantee.specs.Parts.{rate_at}
 use Rattle.cbs_guarantee.specs.declared.source.NotPromised.{NotPromised}
 use Rattle.cbs_guarantee.specs.declared.source.NotPromised.TheVariants as why
-use Rattle.cbs_rate.specs.Plan.{common_multiple}
+use Rattle.cbs_rate.specs.Plan.{Planned, common_multiple}
 use Rattle.cbs_rate.specs.Rate.{Rate}
 use Rattle.cbs_rules.specs.declared.mode.Mode.{Mode}
 use Rattle.cbs_rules.specs.declared.mode.Mode.TheVariants.{Soft}
@@ -145,16 +145,19 @@ source_of f loads t = source_data (get_or f.names t.server []) (promised_for loa
 abbrev pub all_in_time : List ServerLoad → List SourceTerms → Bool
 all_in_time loads sources = list_all (λ t. is_in_time (promised_for loads t.server) t.within) sources
 
--- the members that say what a load in a file of this name has reserved. The key `check` is the version of the object
-unfoldable pub load_terms : List ℕ → LoadFile → Members
-load_terms name f = with_members (
+-- the members that say what a plan in a file of this name has reserved. The key `check` is the version of the object
+unfoldable pub plan_terms : List ℕ → Planned → Members
+plan_terms name plan = with_members (
     (codes "check", whole 1)
     ∷ (codes "file", string name)
     ∷ (codes "unit", string (codes "tick"))
-    ∷ (codes "backlog", whole f.backlog)
-    ∷ (codes "bound", pair_data f.plan.bound.num f.plan.bound.den)
-    ∷ (codes "reserved", pair_data (reserved f.plan.rates) (common_multiple f.plan.rates))
+    ∷ (codes "bound", pair_data plan.bound.num plan.bound.den)
+    ∷ (codes "reserved", pair_data (reserved plan.rates) (common_multiple plan.rates))
     ∷ []) no_members
+
+-- the same of a load, with its backlog
+unfoldable pub load_terms : List ℕ → LoadFile → Members
+load_terms name f = with_members ((codes "backlog", whole f.backlog) ∷ []) (plan_terms name f.plan)
 
 -- the members, with what is promised of the jobs of a load
 unfoldable pub with_promises : LoadFile → List ℕ → List ServerLoad → Members → Members
@@ -181,3 +184,20 @@ pub record IsCheckJson (name : List ℕ) (f : LoadFile) (text : List ℕ) : Type
   pub late : BoundsLateness f (greatest_delay f)
   pub made_up : IfSome (recovery f) (IsMadeUpWithin f)
   pub text_is : text ≡ compact_text (check_data name f budgets loads) ++ codes "\n"
+
+-- server s of a plan, which is called by its number
+abbrev pub numbered_at : List Mode → Planned → List ℕ → ℕ → Data
+numbered_at modes plan budgets s =
+    object (server_terms (codes "server " ++ decimal s) (get_or modes s Soft) (rate_at plan.rates s) (get_or budgets s 0))
+
+-- the object of a plan in a file of this name, by the greatest budgets of its servers
+unfoldable pub plan_data : List ℕ → Planned → List Mode → List ℕ → Data
+plan_data name plan modes budgets = object (with_members (
+    (codes "servers", array (items_of (map (numbered_at modes plan budgets) (range_with_len 0 (length plan.rates)))))
+    ∷ []) (plan_terms name plan))
+
+-- the object of a plan in a file of this name, on one line, with the greatest budget of each server
+pub record IsPlanJson (name : List ℕ) (plan : Planned) (modes : List Mode) (text : List ℕ) : Type 0 where
+  pub budgets : List ℕ
+  pub greatest : AreGreatest plan (length plan.rates) budgets
+  pub text_is : text ≡ compact_text (plan_data name plan modes budgets) ++ codes "\n"

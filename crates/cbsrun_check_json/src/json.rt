@@ -1,13 +1,16 @@
-//! The whole object.
+//! The object of a load.
 
-ghost use Rattle.std.specs.Prelude.{◌≡◌, ◌<◌, length, map, IfOk, OnOk, string_bytes};
+ghost use Rattle.std.specs.Prelude.{◌≡◌, ◌<◌, length, map, IfOk, IfSome, OnOk, string_bytes};
 ghost use Rattle.serde_json.specs.View.{view, members_view};
+ghost use Rattle.cbsrun_sizing.specs.Lateness.{greatest_delay, BoundsLateness};
+ghost use Rattle.cbsrun_sizing.specs.Recoveries.{recovery, IsMadeUpWithin};
 ghost use Rattle.cbsrun_check_json.specs.Json.{check_data, load_terms, server_at, servers_data, source_of, with_promises, IsCheckJson};
 
+use crate::plan::plan_terms;
 use crate::promises::{all_in_time, promised_for};
-use crate::server::{Told, server_value};
+use crate::server::{ServerTerms, server_value};
 use crate::source::source_value;
-use cbsrun_json::{Scalar, put_all};
+use cbsrun_json::{Scalar, line_of, put_all};
 use cbsrun_loads::Load;
 use cbsrun_simulate::SourceTerms;
 use cbsrun_sizing::{
@@ -30,15 +33,14 @@ fn server_at(
     ensures { IfOk result (λ v. view v ≡ server_at load.now budgets.now loads.now server) }
 {
     let place = usize::from(server);
-    let told = Told {
+    let terms = ServerTerms {
         name: load.names()[place].as_str(),
         mode: load.modes().get(server).unwrap(),
         reservation: load.plan().get(server).unwrap(),
         greatest_budget: budgets[place],
-        within: least_within(load.sources(), server),
-        load: loads[place],
     };
-    server_value(alloc, told)
+    let within = least_within(load.sources(), server);
+    server_value(alloc, terms, within, loads[place])
 }
 
 /// Returns the object of each server of a load. The only error is out of memory.
@@ -97,20 +99,11 @@ fn load_terms(alloc: Global, name: &str, load: &Load) -> Result<Map<String, Valu
     ensures { IfOk result (λ members. members_view members.entries
         ≡ load_terms name.now load.now) }
 {
-    let bound = load.plan().bound();
-    let reserved = load.plan().bandwidth();
-    let mut members = Map::new(alloc);
+    let mut members = plan_terms(alloc, name, load.plan())?;
     put_all(
         alloc,
         &mut members,
-        &[
-            ("check", Scalar::Whole(1)),
-            ("file", Scalar::Text(name)),
-            ("unit", Scalar::Text("tick")),
-            ("backlog", Scalar::Whole(load.backlog())),
-            ("bound", Scalar::Pair(bound.num(), bound.den())),
-            ("reserved", Scalar::Pair(reserved.ticks, reserved.of)),
-        ],
+        &[("backlog", Scalar::Whole(load.backlog()))],
     )?;
     Ok(members)
 }
@@ -127,8 +120,10 @@ fn put_promises(
 ) -> Result<(), AllocError>
     requires budgets { length budgets.now ≡ length load.now.plan.rates }
     requires loads { length loads.now ≡ length load.now.plan.rates }
-    ensures { OnOk result (members_view members.new.entries
+    ensures value { OnOk result (members_view members.new.entries
         ≡ with_promises load.now budgets.now loads.now (members_view members.old.entries)) }
+    ensures late { OnOk result (BoundsLateness load.now (greatest_delay load.now)) }
+    ensures made_up { OnOk result (IfSome (recovery load.now) (IsMadeUpWithin load.now)) }
 {
     let servers = servers_values(alloc, load, budgets, loads)?;
     let sources = sources_values(alloc, load, loads)?;
@@ -159,7 +154,10 @@ fn check_value(
 ) -> Result<Value, AllocError>
     requires budgets { length budgets.now ≡ length load.now.plan.rates }
     requires loads { length loads.now ≡ length load.now.plan.rates }
-    ensures { IfOk result (λ v. view v ≡ check_data name.now load.now budgets.now loads.now) }
+    ensures value { IfOk result (λ v. view v
+        ≡ check_data name.now load.now budgets.now loads.now) }
+    ensures late { OnOk result (BoundsLateness load.now (greatest_delay load.now)) }
+    ensures made_up { OnOk result (IfSome (recovery load.now) (IsMadeUpWithin load.now)) }
 {
     let mut members = load_terms(alloc, name, load)?;
     put_promises(alloc, &mut members, load, budgets, loads)?;
@@ -173,7 +171,6 @@ pub fn check_json(alloc: Global, name: &str, load: &Load) -> Result<String, Allo
 {
     let budgets = greatest_budgets(alloc, load.plan())?;
     let loads = server_loads(alloc, load)?;
-    let mut text = check_value(alloc, name, load, &budgets, &loads)?.to_string(alloc)?;
-    text.push_str("\n")?;
-    Ok(text)
+    let value = check_value(alloc, name, load, &budgets, &loads)?;
+    line_of(alloc, &value)
 }

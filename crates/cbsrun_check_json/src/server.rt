@@ -14,9 +14,9 @@ use cbsrun_text::mode_word;
 use serde_json::{Map, Value, put};
 use std::alloc::{AllocError, Global};
 
-/// What is told of a server.
+/// What a server has, and could have.
 #[derive(Clone, Copy)]
-pub(crate) struct Told<'a> {
+pub(crate) struct ServerTerms<'a> {
     /// Its name.
     pub name: &'a str,
     /// Its mode.
@@ -25,10 +25,6 @@ pub(crate) struct Told<'a> {
     pub reservation: Reservation,
     /// The greatest budget that it could have at its period.
     pub greatest_budget: u64,
-    /// The least number of ticks within which one of its sources wants its jobs finished, if it has a source.
-    pub within: Option<u64>,
-    /// The figures of its sources.
-    pub load: ServerLoad,
 }
 
 /// Returns a proposal, and whether it fits if so much fits at its period, or null if there is none. The only error is out
@@ -87,22 +83,26 @@ fn needs_none(remedy: Option<Remedy>) -> bool
     remedy.is_none()
 }
 
-/// Puts what a server has, and could have, into an empty object. The only error is out of memory.
+/// Returns what a server has, and could have, as the members of an object. The only error is out of memory.
 #[tactic(auto, unfolding(crate::specs::Json::server_terms))]
-fn server_terms(alloc: Global, told: Told<'_>) -> Result<Map<String, Value>, AllocError>
+pub(crate) fn terms_members(
+    alloc: Global,
+    terms: ServerTerms<'_>,
+) -> Result<Map<String, Value>, AllocError>
     ensures { IfOk result (λ members. members_view members.entries ≡ server_terms
-        told.entry.name.now told.entry.mode told.entry.reservation told.entry.greatest_budget) }
+        terms.entry.name.now terms.entry.mode terms.entry.reservation
+        terms.entry.greatest_budget) }
 {
     let mut members = Map::new(alloc);
     put_all(
         alloc,
         &mut members,
         &[
-            ("name", Scalar::Text(told.name)),
-            ("mode", Scalar::Text(mode_word(told.mode))),
-            ("budget", Scalar::Whole(told.reservation.budget())),
-            ("period", Scalar::Whole(told.reservation.period())),
-            ("greatest_budget", Scalar::Whole(told.greatest_budget)),
+            ("name", Scalar::Text(terms.name)),
+            ("mode", Scalar::Text(mode_word(terms.mode))),
+            ("budget", Scalar::Whole(terms.reservation.budget())),
+            ("period", Scalar::Whole(terms.reservation.period())),
+            ("greatest_budget", Scalar::Whole(terms.greatest_budget)),
         ],
     )?;
     Ok(members)
@@ -141,13 +141,19 @@ fn put_figures(
     Ok(())
 }
 
-/// Returns the object of a server. The only error is out of memory.
+/// Returns the object of a server of a load. `within` is the least that one of its sources wants. The only error is out
+/// of memory.
 #[tactic(auto, unfolding(crate::specs::Json::server_data))]
-pub(crate) fn server_value(alloc: Global, told: Told<'_>) -> Result<Value, AllocError>
-    ensures { IfOk result (λ v. view v ≡ server_data told.entry.name.now told.entry.mode
-        told.entry.reservation told.entry.greatest_budget told.entry.within told.entry.load) }
+pub(crate) fn server_value(
+    alloc: Global,
+    terms: ServerTerms<'_>,
+    within: Option<u64>,
+    load: ServerLoad,
+) -> Result<Value, AllocError>
+    ensures { IfOk result (λ v. view v ≡ server_data terms.entry.name.now terms.entry.mode
+        terms.entry.reservation terms.entry.greatest_budget within load) }
 {
-    let mut members = server_terms(alloc, told)?;
-    put_figures(alloc, &mut members, told.within, told.load)?;
+    let mut members = terms_members(alloc, terms)?;
+    put_figures(alloc, &mut members, within, load)?;
     Ok(Value::Object(members))
 }

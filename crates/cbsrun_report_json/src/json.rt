@@ -6,7 +6,7 @@ ghost use Rattle.cbsrun_report_json.specs.Json.{all_in_time, server_data, report
 
 use crate::parts::Part;
 use crate::server::server_value;
-use cbsrun_json::{Scalar, put_all};
+use cbsrun_json::{Scalar, line_of, put_all};
 use cbsrun_report_text::{RunReport, ServerReport};
 use serde_json::{Map, Value, put};
 use std::alloc::{AllocError, Global};
@@ -73,7 +73,6 @@ fn report_value(alloc: Global, report: &RunReport) -> Result<Value, AllocError>
 pub fn report_json(alloc: Global, report: &RunReport) -> Result<String, AllocError>
     ensures { IfOk result (λ text. string_bytes text ≡ report_json report.now) }
 {
-    let mut text = report_value(alloc, report)?.to_string(alloc)?;
-    text.push_str("\n")?;
-    Ok(text)
+    let value = report_value(alloc, report)?;
+    line_of(alloc, &value)
 }
