@@ -1,17 +1,19 @@
 -- Servers and sources of a load, one after the other.
-use Rattle.std.proofs.Common.{◌≡◌, ℕ, ◌+◌, ◌<◌, List, [], ◌∷◌, ◌++◌, length, take, get_or, refl, sym, ap, ◌∙◌, arith, Option}
+use Rattle.std.proofs.Common.{◌≡◌, ℕ, ◌+◌, ◌<◌, List, [], ◌∷◌, ◌++◌, length, take, get_or, refl, sym, ap, ◌∙◌, arith, Option, Result}
 use Rattle.std.specs.Prelude.{map}
 use Rattle.std.specs.List.{range_with_len}
 use Rattle.std.proofs.lemmas.List.{get_or-map, map_push, map_more}
 use Rattle.std.proofs.lemmas.List.FromFn.{map-range_with_len_more}
 use Rattle.cbs_guarantee.specs.Parts.{rate_at}
+use Rattle.cbs_guarantee.specs.declared.source.NotPromised.{NotPromised}
 use Rattle.cbs_rate.specs.Rate.{Rate}
 use Rattle.cbs_rules.specs.declared.mode.Mode.{Mode}
 use Rattle.cbs_rules.specs.declared.mode.Mode.TheVariants.{Soft}
 use Rattle.cbsrun_loads.specs.Loads.{LoadFile}
+use Rattle.cbsrun_simulate.specs.declared.terms.SourceTerms.{SourceTerms}
 use Rattle.cbsrun_sizing.specs.ServerLoads.{least_within, no_load}
 use Rattle.cbsrun_sizing.specs.declared.server_load.ServerLoad.{ServerLoad}
-use Rattle.cbsrun_check_json.specs.Json.{server_at, server_data}
+use Rattle.cbsrun_check_json.specs.Json.{promised_for, server_at, server_data, source_data, source_of}
 
 -- elements by a function of the number of each, and one more
 pub mapped_more : {X Y : Type 0} (f : X → Y) (g : ℕ → Y) (xs : List X) (x : X) (n : ℕ) → map f xs ≡ map g (range_with_len 0 n) → f x ≡ g n
@@ -35,3 +37,8 @@ pub server_is : (f : LoadFile) (budgets : List ℕ) (loads : List ServerLoad) (s
     → within ≡ least_within f.sources s → get_or loads s no_load ≡ load
     → server_at f budgets loads s ≡ server_data name mode rate greatest within load
 server_is f budgets loads s name mode rate greatest within load e m r g w l = rw (e, m, r, g, w, l) refl
+
+-- a source, by its parts
+pub source_is : (f : LoadFile) (loads : List ServerLoad) (t : SourceTerms) (name : List ℕ) (promised : Result ℕ NotPromised)
+    → get_or f.names t.server [] ≡ name → promised ≡ promised_for loads t.server → source_of f loads t ≡ source_data name promised t
+source_is f loads t name promised e p = rw (e, p) refl

@@ -33,10 +33,13 @@ fn server_at(
     ensures { IfOk result (λ v. view v ≡ server_at load.now budgets.now loads.now server) }
 {
     let place = usize::from(server);
+    let name = load.names()[place].as_str();
+    let mode = load.modes().get(server).unwrap();
+    let reservation = load.plan().get(server).unwrap();
     let terms = ServerTerms {
-        name: load.names()[place].as_str(),
-        mode: load.modes().get(server).unwrap(),
-        reservation: load.plan().get(server).unwrap(),
+        name,
+        mode,
+        reservation,
         greatest_budget: budgets[place],
     };
     let within = least_within(load.sources(), server);
