@@ -8,7 +8,7 @@ ghost use Rattle.cbsrun_check_json.specs.Json.{check_data, load_terms, server_at
 
 use crate::plan::plan_terms;
 use crate::promises::{all_in_time, promised_for};
-use crate::server::{ServerTerms, server_value};
+use crate::server::{put_figures, server_terms};
 use crate::source::source_value;
 use cbsrun_json::{Scalar, line_of, put_all};
 use cbsrun_loads::Load;
@@ -36,14 +36,10 @@ fn server_at(
     let name = load.names()[place].as_str();
     let mode = load.modes().get(server).unwrap();
     let reservation = load.plan().get(server).unwrap();
-    let terms = ServerTerms {
-        name,
-        mode,
-        reservation,
-        greatest_budget: budgets[place],
-    };
     let within = least_within(load.sources(), server);
-    server_value(alloc, terms, within, loads[place])
+    let mut members = server_terms(alloc, name, mode, reservation, budgets[place])?;
+    put_figures(alloc, &mut members, within, loads[place])?;
+    Ok(Value::Object(members))
 }
 
 /// Returns the object of each server of a load. The only error is out of memory.

@@ -5,7 +5,7 @@ ghost use Rattle.std.specs.List.{range_with_len};
 ghost use Rattle.serde_json.specs.View.{view, members_view};
 ghost use Rattle.cbsrun_check_json.specs.Json.{numbered_at, plan_data, plan_terms, IsPlanJson};
 
-use crate::server::{ServerTerms, terms_members};
+use crate::server::server_terms;
 use cbs_rate::Plan;
 use cbs_rules::Modes;
 use cbsrun_json::{Scalar, line_of, put_all};
@@ -58,13 +58,9 @@ fn numbered_at(
     append_pair(&mut name, "server ", server)?;
     let mode = modes.get(server).unwrap();
     let reservation = plan.get(server).unwrap();
-    let terms = ServerTerms {
-        name: &name,
-        mode,
-        reservation,
-        greatest_budget: budgets[usize::from(server)],
-    };
-    Ok(Value::Object(terms_members(alloc, terms)?))
+    let greatest = budgets[usize::from(server)];
+    let members = server_terms(alloc, &name, mode, reservation, greatest)?;
+    Ok(Value::Object(members))
 }
 
 /// Returns the object of each server of a plan. The only error is out of memory.

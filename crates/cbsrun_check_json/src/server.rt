@@ -1,8 +1,8 @@
-//! The object of one server.
+//! The members of the object of a server.
 
 ghost use Rattle.std.specs.Prelude.{◌≡◌, IfOk, OnOk};
 ghost use Rattle.serde_json.specs.View.{view, members_view};
-ghost use Rattle.cbsrun_check_json.specs.Json.{asked_pair, needs_none, proposal_data, remedy_data, server_data, server_terms, with_figures};
+ghost use Rattle.cbsrun_check_json.specs.Json.{asked_pair, needs_none, proposal_data, remedy_data, server_terms, with_figures};
 
 use crate::promises::{needed_backlog, reason_of};
 use cbs_rate::Reservation;
@@ -13,19 +13,6 @@ use cbsrun_sizing::{Asked, ServerLoad};
 use cbsrun_text::mode_word;
 use serde_json::{Map, Value, put};
 use std::alloc::{AllocError, Global};
-
-/// What a server has, and could have.
-#[derive(Clone, Copy)]
-pub(crate) struct ServerTerms<'a> {
-    /// Its name.
-    pub name: &'a str,
-    /// Its mode.
-    pub mode: Mode,
-    /// Its reservation.
-    pub reservation: Reservation,
-    /// The greatest budget that it could have at its period.
-    pub greatest_budget: u64,
-}
 
 /// Returns a proposal, and whether it fits if so much fits at its period, or null if there is none. The only error is out
 /// of memory.
@@ -83,26 +70,29 @@ fn needs_none(remedy: Option<Remedy>) -> bool
     remedy.is_none()
 }
 
-/// Returns what a server has, and could have, as the members of an object. The only error is out of memory.
+/// Returns what a server has, and the greatest budget that it could have at its period, as the members of an object. The
+/// only error is out of memory.
 #[tactic(auto, unfolding(crate::specs::Json::server_terms))]
-pub(crate) fn terms_members(
+pub(crate) fn server_terms(
     alloc: Global,
-    terms: ServerTerms<'_>,
+    name: &str,
+    mode: Mode,
+    reservation: Reservation,
+    greatest: u64,
 ) -> Result<Map<String, Value>, AllocError>
-    ensures { IfOk result (λ members. members_view members.entries ≡ server_terms
-        terms.entry.name.now terms.entry.mode terms.entry.reservation
-        terms.entry.greatest_budget) }
+    ensures { IfOk result (λ members. members_view members.entries
+        ≡ server_terms name.now mode reservation greatest) }
 {
     let mut members = Map::new(alloc);
     put_all(
         alloc,
         &mut members,
         &[
-            ("name", Scalar::Text(terms.name)),
-            ("mode", Scalar::Text(mode_word(terms.mode))),
-            ("budget", Scalar::Whole(terms.reservation.budget())),
-            ("period", Scalar::Whole(terms.reservation.period())),
-            ("greatest_budget", Scalar::Whole(terms.greatest_budget)),
+            ("name", Scalar::Text(name)),
+            ("mode", Scalar::Text(mode_word(mode))),
+            ("budget", Scalar::Whole(reservation.budget())),
+            ("period", Scalar::Whole(reservation.period())),
+            ("greatest_budget", Scalar::Whole(greatest)),
         ],
     )?;
     Ok(members)
@@ -111,7 +101,7 @@ pub(crate) fn terms_members(
 /// Puts what is told of the sources of a server among its members. `within` is the least that one of them wants. The only
 /// error is out of memory.
 #[tactic(auto, unfolding(crate::specs::Json::with_figures))]
-fn put_figures(
+pub(crate) fn put_figures(
     alloc: Global,
     members: &mut Map<String, Value>,
     within: Option<u64>,
@@ -139,21 +129,4 @@ fn put_figures(
     )?;
     put(members, alloc, "remedy", remedy)?;
     Ok(())
-}
-
-/// Returns the object of a server of a load. `within` is the least that one of its sources wants. The only error is out
-/// of memory.
-#[tactic(auto, unfolding(crate::specs::Json::server_data))]
-pub(crate) fn server_value(
-    alloc: Global,
-    terms: ServerTerms<'_>,
-    within: Option<u64>,
-    load: ServerLoad,
-) -> Result<Value, AllocError>
-    ensures { IfOk result (λ v. view v ≡ server_data terms.entry.name.now terms.entry.mode
-        terms.entry.reservation terms.entry.greatest_budget within load) }
-{
-    let mut members = terms_members(alloc, terms)?;
-    put_figures(alloc, &mut members, within, load)?;
-    Ok(Value::Object(members))
 }

@@ -3,6 +3,8 @@ use Rattle.std.proofs.lemmas.List.{length-map}
 use Rattle.std.proofs.lemmas.Option.{get_or_from_slice_get, slice_get-get_or}
 use Rattle.cbs_rules.specs.declared.mode.Mode.TheVariants.{Soft}
 use Rattle.cbsrun_sizing.specs.ServerLoads.{no_load}
+use Rattle.serde_json.specs.Data.{object}
+use Rattle.cbsrun_check_json.specs.Json.{server_data, with_figures}
 use Rattle.cbsrun_check_json.proofs.Listed.{name_is, server_is}
 use Rattle.cbsrun_check_json.proofs.json.server_at.Goals as goal
 
@@ -16,6 +18,7 @@ unwrap-reservation-requires c =
     rw (c.get-2.ensures.value, c.plan.ensures, slice_get-get_or c.args.load.now.plan.rates c.args.server (record { budget = 0; period = 0 }) c.requires.held)
 
 pub returns : goal.returns
+unfolding server_data
 returns c =
     let s = c.args.server in
     let f = c.args.load.now in
@@ -32,5 +35,7 @@ returns c =
     let budget : get_or budgets s 0 ≡ get_or budgets place 0 = rw c.from-place.ensures refl in
     let load : get_or loads s no_load ≡ get_or loads place no_load = rw c.from-place.ensures refl in
     let least = rw c.sources.ensures.value at c.least_within-within.ensures in
+    let figures = with_figures c.least_within-within.result (get_or loads place no_load) in
     rw (server_is f budgets loads s c.as_str-name.result.now c.unwrap-mode.result c.unwrap-reservation.result (get_or budgets place 0)
-    c.least_within-within.result (get_or loads place no_load) (rw c.names.ensures.value at name) mode rate budget least load) c.server_value.ensures
+    c.least_within-within.result (get_or loads place no_load) (rw c.names.ensures.value at name) mode rate budget least load)
+    (ap object (c.in_ok-put_figures.ensures ∙ ap figures c.in_ok-members.ensures))
