@@ -1,11 +1,13 @@
 -- Servers and sources of a load, one after the other.
 use Rattle.std.proofs.Common.{◌≡◌, ℕ, ◌+◌, ◌<◌, List, [], ◌∷◌, ◌++◌, length, take, get_or, refl, sym, ap, ◌∙◌, arith, Option, Result}
-use Rattle.std.specs.Prelude.{map}
+use Rattle.std.specs.Prelude.{codes, decimal, map}
 use Rattle.std.specs.List.{range_with_len}
 use Rattle.std.proofs.lemmas.List.{get_or-map, map_push, map_more}
 use Rattle.std.proofs.lemmas.List.FromFn.{map-range_with_len_more}
+use Rattle.serde_json.specs.Data.{object}
 use Rattle.cbs_guarantee.specs.Parts.{rate_at}
 use Rattle.cbs_guarantee.specs.declared.source.NotPromised.{NotPromised}
+use Rattle.cbs_rate.specs.Plan.{Planned}
 use Rattle.cbs_rate.specs.Rate.{Rate}
 use Rattle.cbs_rules.specs.declared.mode.Mode.{Mode}
 use Rattle.cbs_rules.specs.declared.mode.Mode.TheVariants.{Soft}
@@ -13,7 +15,7 @@ use Rattle.cbsrun_loads.specs.Loads.{LoadFile}
 use Rattle.cbsrun_simulate.specs.declared.terms.SourceTerms.{SourceTerms}
 use Rattle.cbsrun_sizing.specs.ServerLoads.{least_within, no_load}
 use Rattle.cbsrun_sizing.specs.declared.server_load.ServerLoad.{ServerLoad}
-use Rattle.cbsrun_check_json.specs.Json.{promised_for, server_at, server_data, source_data, source_of}
+use Rattle.cbsrun_check_json.specs.Json.{numbered_at, promised_for, server_at, server_data, server_terms, source_data, source_of}
 
 -- elements by a function of the number of each, and one more
 pub mapped_more : {X Y : Type 0} (f : X → Y) (g : ℕ → Y) (xs : List X) (x : X) (n : ℕ) → map f xs ≡ map g (range_with_len 0 n) → f x ≡ g n
@@ -42,3 +44,9 @@ server_is f budgets loads s name mode rate greatest within load e m r g w l = rw
 pub source_is : (f : LoadFile) (loads : List ServerLoad) (t : SourceTerms) (name : List ℕ) (promised : Result ℕ NotPromised)
     → get_or f.names t.server [] ≡ name → promised ≡ promised_for loads t.server → source_of f loads t ≡ source_data name promised t
 source_is f loads t name promised e p = rw (e, p) refl
+
+-- a server that is called by its number, by its parts
+pub numbered_is : (modes : List Mode) (plan : Planned) (budgets : List ℕ) (s : ℕ) (name : List ℕ) (mode : Mode) (rate : Rate) (greatest : ℕ)
+    → name ≡ codes "server " ++ decimal s → get_or modes s Soft ≡ mode → rate_at plan.rates s ≡ rate → get_or budgets s 0 ≡ greatest
+    → numbered_at modes plan budgets s ≡ object (server_terms name mode rate greatest)
+numbered_is modes plan budgets s name mode rate greatest n m r g = rw (n, m, r, g) refl

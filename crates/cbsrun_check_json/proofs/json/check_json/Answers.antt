@@ -9,8 +9,7 @@ use Rattle.cbsrun_check_json.proofs.json.check_json.Goals as goal
 
 pub line_of-requires : goal.line_of-requires
 line_of-requires c =
-    ap has_float c.in_ok-value.ensures.value
-    ∙ check_plain c.args.name.now c.args.load.now c.in_ok-budgets.budgets.items c.in_ok-loads.loads.items
+    ap has_float c.in_ok-value.ensures.value ∙ check_plain c.args.name.now c.args.load.now c.deref.result.now c.deref-2.result.now
 
 pub returns : goal.returns
 returns c =
@@ -25,5 +24,5 @@ returns c =
       told_of = c.in_ok-loads.ensures;
       late = c.in_ok-value.ensures.late;
       made_up = c.in_ok-value.ensures.made_up;
-      text_is = is ∙ ap line c.in_ok-value.ensures.value;
+      text_is = is ∙ ap line (rw (c.deref.ensures.value, c.deref-2.ensures.value) at c.in_ok-value.ensures.value);
     }) c.line_of.ensures

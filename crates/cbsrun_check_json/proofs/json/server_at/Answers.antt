@@ -3,6 +3,7 @@ use Rattle.std.proofs.lemmas.List.{length-map}
 use Rattle.std.proofs.lemmas.Option.{get_or_from_slice_get, slice_get-get_or}
 use Rattle.cbs_rules.specs.declared.mode.Mode.TheVariants.{Soft}
 use Rattle.cbsrun_sizing.specs.ServerLoads.{no_load}
+use Rattle.serde_json.proofs.Views.{view-Object}
 use Rattle.serde_json.specs.Data.{object}
 use Rattle.cbsrun_check_json.specs.Json.{server_data, with_figures}
 use Rattle.cbsrun_check_json.proofs.Listed.{name_is, server_is}
@@ -38,4 +39,4 @@ returns c =
     let figures = with_figures c.least_within-within.result (get_or loads place no_load) in
     rw (server_is f budgets loads s c.as_str-name.result.now c.unwrap-mode.result c.unwrap-reservation.result (get_or budgets place 0)
     c.least_within-within.result (get_or loads place no_load) (rw c.names.ensures.value at name) mode rate budget least load)
-    (ap object (c.in_ok-put_figures.ensures ∙ ap figures c.in_ok-members.ensures))
+    (view-Object c.put_figures.new.members ∙ ap object (c.in_ok-put_figures.ensures ∙ ap figures c.in_ok-members.ensures))

@@ -8,7 +8,7 @@ use Rattle.cbsrun_check_json.proofs.Floats.{plan_plain}
 use Rattle.cbsrun_check_json.proofs.plan.check_plan_json.Goals as goal
 
 pub line_of-requires : goal.line_of-requires
-line_of-requires c = ap has_float c.in_ok-value.ensures ∙ plan_plain c.args.name.now c.args.plan.now c.args.modes.now c.in_ok-budgets.budgets.items
+line_of-requires c = ap has_float c.in_ok-value.ensures ∙ plan_plain c.args.name.now c.args.plan.now c.args.modes.now c.deref.result.now
 
 pub returns : goal.returns
 returns c =
@@ -18,5 +18,5 @@ returns c =
     (λ text is. record {
       budgets = c.in_ok-budgets.budgets.items;
       greatest = c.in_ok-budgets.ensures.greatest;
-      text_is = is ∙ ap line c.in_ok-value.ensures;
+      text_is = is ∙ ap line (rw c.deref.ensures.value at c.in_ok-value.ensures);
     }) c.line_of.ensures
