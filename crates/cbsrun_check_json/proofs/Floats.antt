@@ -5,13 +5,11 @@ use Rattle.std.specs.Result.{result_ok}
 use Rattle.serde_json.specs.Data.{object}
 use Rattle.serde_json.specs.View.{items_of}
 use Rattle.serde_json.specs.Written.{has_float, items_have_float}
-use Rattle.cbs_guarantee.specs.Parts.{rate_at}
 use Rattle.cbs_guarantee.specs.declared.source.NotPromised.{NotPromised}
 use Rattle.cbs_rate.specs.Plan.{Planned, common_multiple}
 use Rattle.cbs_rate.specs.Rate.{Rate}
 use Rattle.cbs_rules.specs.declared.mode.Mode.{Mode}
 use Rattle.cbsrun_json.proofs.Plain.{long_if_plain, pair_if_plain, pair_plain, text_if_plain, whole_if_plain}
-use Rattle.cbsrun_json.specs.Members.{told}
 use Rattle.cbsrun_loads.specs.Loads.{LoadFile}
 use Rattle.cbsrun_proposals.specs.declared.remedy.Proposal.{Proposal}
 use Rattle.cbsrun_proposals.specs.declared.remedy.Remedy.{Remedy}

@@ -1,6 +1,6 @@
 //! Whether jobs are promised in time, and why not.
 
-ghost use Rattle.std.specs.Prelude.{◌≡◌, get_or, option_map};
+ghost use Rattle.std.specs.Prelude.{◌≡◌, option_map};
 ghost use Rattle.cbsrun_check_json.specs.Json.{all_in_time, is_in_time, needed_backlog, promised_for, reason_of, reason_word};
 
 use cbs_guarantee::NotPromised;

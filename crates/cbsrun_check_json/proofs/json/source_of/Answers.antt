@@ -1,4 +1,4 @@
-use Rattle.std.proofs.Common.{◌≡◌, ◌<◌, ap, length, string_bytes, arith}
+use Rattle.std.proofs.Common.{◌<◌, ap, length, string_bytes, arith}
 use Rattle.std.proofs.lemmas.List.{length-map}
 use Rattle.cbsrun_check_json.proofs.Listed.{name_is, source_is}
 use Rattle.cbsrun_check_json.proofs.json.source_of.Goals as goal
