@@ -4,20 +4,16 @@ use Rattle.std.specs.declared.alloc.Global.{Global}
 use Rattle.std.proofs.lemmas.Result.{IfOk-weaker}
 use Rattle.serde_json.specs.Data.{Data}
 use Rattle.serde_json.specs.Written.{compact_text, has_float}
+use Rattle.cbsrun_json.proofs.Plain.{long_if_plain, whole_if_plain}
 use Rattle.cbsrun_chart.specs.declared.hidden.Hidden.{Hidden}
 use Rattle.cbsrun_chart.specs.declared.jobs.ChartJob.{ChartJob}
-use Rattle.cbsrun_perfetto.specs.Events.{LineSeen, about_data, budget_args, budget_data, hidden_args, hidden_data, instant_data, job_args, line_of, on_thread, slice_data, whole_if}
+use Rattle.cbsrun_perfetto.specs.Events.{LineSeen, about_data, budget_args, budget_data, hidden_args, hidden_data, instant_data, job_args, line_of, on_thread, slice_data}
 
--- a number, or its absence, has no fraction
-whole_if_plain : (n : Option ℕ) → has_float (whole_if n) ≡ false
-whole_if_plain None = refl
-whole_if_plain (Some n) = refl
-
--- nor has what is told of a job
+-- what is told of a job has no fraction
 pub job_plain : (j : ℕ) (job : Option ChartJob) → has_float (job_args j job) ≡ false
 unfolding job_args
 job_plain j None = refl
-job_plain j (Some job) = rw (whole_if_plain job.within, whole_if_plain job.promised, whole_if_plain job.finish) refl
+job_plain j (Some job) = rw (whole_if_plain job.within, long_if_plain job.promised, whole_if_plain job.finish) refl
 
 -- a slice has one only if what is told of it has one
 pub slice_plain : (name cat : List ℕ) (thread from to : ℕ) (args : Data) → has_float args ≡ false → has_float (slice_data name cat thread from to args) ≡ false

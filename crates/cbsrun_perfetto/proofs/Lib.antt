@@ -1,4 +1,3 @@
 pub mod Floats
 pub mod Growing
 pub mod Numbering
-pub mod Putting

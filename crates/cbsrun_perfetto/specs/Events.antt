@@ -1,47 +1,18 @@
 -- The events of a trace, as JSON objects.
 use Rattle.std.specs.Prelude.{ℕ, ◌-◌, List, [], ◌∷◌, ◌++◌, codes, map, Option, Some, None}
 use Rattle.std.specs.Borrow.{Bor}
-use Rattle.serde_json.specs.Data.{Data, null, number, unsigned, string, object, Members, no_members, put}
+use Rattle.serde_json.specs.Data.{Data, string, object, Members, no_members, put}
 use Rattle.serde_json.specs.Written.{compact_text}
-use Rattle.cbsrun_window.specs.Counts.{told}
 use Rattle.cbsrun_chart.specs.Hidden.{hidden_text}
 use Rattle.cbsrun_chart.specs.declared.hidden.Hidden.{Hidden}
 use Rattle.cbsrun_chart.specs.declared.jobs.ChartJob.{ChartJob}
-use Rattle.cbsrun_perfetto.specs.declared.members.Scalar.{Scalar}
-use Rattle.cbsrun_perfetto.specs.declared.members.Scalar.TheVariants as scalar
-
--- the members, and these put among them, in the order of their keys
-abbrev pub with_members : List (List ℕ × Data) → Members → Members
-with_members [] ms = ms
-with_members (m ∷ more) ms = with_members more (put m.0 m.1 ms)
-
--- the object of keys with their values
-abbrev pub object_of : List (List ℕ × Data) → Data
-object_of members = object (with_members members no_members)
-
--- a number
-abbrev pub whole : ℕ → Data
-whole n = number (unsigned n)
-
--- a number, if there is one, else null. A number greater than 2^64 - 1 is given as 2^64 - 1
-abbrev pub whole_if : Option ℕ → Data
-whole_if None = null
-whole_if (Some n) = whole (told n)
-
--- a value with no parts
-abbrev pub scalar_data : Scalar → Data
-scalar_data (scalar.Text text) = string text.now
-scalar_data (scalar.Whole n) = whole n
-scalar_data (scalar.WholeIf n) = whole_if n
-
--- a key with its value
-abbrev pub member_of : Bor (List ℕ) × Scalar → List ℕ × Data
-member_of m = (m.0.now, scalar_data m.1)
+use Rattle.cbsrun_json.specs.Members.{long_if, member_of, object_of, scalar_data, whole, whole_if, with_members}
+use Rattle.cbsrun_json.specs.declared.scalar.Scalar.{Scalar}
 
 -- the event with these members, with more members, and with arguments
 abbrev pub event_data : List (Bor (List ℕ) × Scalar) → List (Bor (List ℕ) × Scalar) → Data → Data
 event_data first more args =
-    object (put (codes "args") args (with_members (map member_of more) (with_members (map member_of first) no_members)))
+    object (put (codes "args") args (with_members (map (member_of scalar_data) more) (with_members (map (member_of scalar_data) first) no_members)))
 
 -- the members, with a thread and a tick
 abbrev pub with_place : ℕ → ℕ → Members → Members
@@ -124,7 +95,7 @@ job_args j (Some job) = object_of (
     ∷ (codes "arrival", whole job.came)
     ∷ (codes "units", whole job.units)
     ∷ (codes "within", whole_if job.within)
-    ∷ (codes "promised", whole_if job.promised)
+    ∷ (codes "promised", long_if job.promised)
     ∷ (codes "finish", whole_if job.finish)
     ∷ [])
 

@@ -4,12 +4,13 @@ ghost use Rattle.std.specs.Prelude.{◌≡◌, false, IfOk, map, string_bytes};
 ghost use Rattle.serde_json.specs.Data.{no_members};
 ghost use Rattle.serde_json.specs.View.{view};
 ghost use Rattle.serde_json.specs.Written.{compact_text, has_float};
-ghost use Rattle.cbsrun_perfetto.specs.Events.{about_data, came_args, event_data, finished_args, hidden_args, hidden_data, instant_data, job_args, line_of, member_of, named_args, no_args, on_thread, placed_args, slice_data, with_members};
+ghost use Rattle.cbsrun_json.specs.Members.{member_of, scalar_data, with_members};
+ghost use Rattle.cbsrun_perfetto.specs.Events.{about_data, came_args, event_data, finished_args, hidden_args, hidden_data, instant_data, job_args, line_of, named_args, no_args, on_thread, placed_args, slice_data};
 ghost use Rattle.cbsrun_perfetto.specs.Traces.{budget_line};
 
 use crate::line::Line;
-use crate::members::{Scalar, object_of, put_all};
 use cbsrun_chart::{ChartJob, Hidden, Stretch};
+use cbsrun_json::{Scalar, object_of, put_all};
 use serde_json::{Map, Value, put};
 use std::alloc::{AllocError, Global};
 
@@ -31,9 +32,9 @@ pub(crate) fn job_args(
             ("job", Scalar::Whole(number)),
             ("arrival", Scalar::Whole(job.came)),
             ("units", Scalar::Whole(u64::from(job.units))),
-            ("within", Scalar::WholeIf(job.within.map(u128::from))),
-            ("promised", Scalar::WholeIf(job.promised)),
-            ("finish", Scalar::WholeIf(job.finish.map(u128::from))),
+            ("within", Scalar::WholeIf(job.within)),
+            ("promised", Scalar::LongIf(job.promised)),
+            ("finish", Scalar::WholeIf(job.finish)),
         ],
     )
 }
@@ -85,7 +86,7 @@ pub(crate) fn no_args(alloc: Global) -> Result<Value, AllocError>
     ensures value { IfOk result (λ v. view v ≡ no_args) }
     ensures plain { IfOk result (λ v. has_float (view v) ≡ false) }
 {
-    object_of(alloc, &[])
+    object_of::<Scalar<'_>>(alloc, &[])
 }
 
 /// Returns the members that all events on a thread have: the phase, the name, the category, and the place.
@@ -97,7 +98,7 @@ fn on_thread<'a>(
     thread: u64,
     tick: u64,
 ) -> [(&'static str, Scalar<'a>); 6]
-    ensures { with_members (map member_of result) no_members
+    ensures { with_members (map (member_of scalar_data) result) no_members
         ≡ on_thread phase.now name.now cat.now thread tick }
 {
     [

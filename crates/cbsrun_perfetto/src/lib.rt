@@ -4,7 +4,6 @@
 mod events;
 mod line;
 mod marks;
-mod members;
 mod server;
 mod slices;
 mod trace;

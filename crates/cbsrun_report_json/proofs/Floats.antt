@@ -6,16 +6,13 @@ use Rattle.cbsrun_figures.specs.declared.figures.Figures.{Figures}
 use Rattle.cbsrun_figures.specs.declared.figures.Ranks.{Ranks}
 use Rattle.cbsrun_report_text.specs.declared.report.RunReport.{RunReport}
 use Rattle.cbsrun_report_text.specs.declared.report.ServerReport.{ServerReport}
-use Rattle.cbsrun_report_json.specs.Json.{pair_data, jobs_data, within_data, units_data, ranks_data, early_data}
-use Rattle.cbsrun_report_json.specs.Json.{charges_data, server_terms, with_jobs, with_time, server_data, servers_data}
-use Rattle.cbsrun_report_json.specs.Json.{ticks_data, seed_data, report_terms, with_shares, with_servers, report_data}
+use Rattle.cbsrun_json.specs.Members.{pair_data}
+use Rattle.cbsrun_json.proofs.Plain.{pair_plain, whole_if_plain}
+use Rattle.cbsrun_report_json.specs.Json.{jobs_data, within_data, units_data, ranks_data, early_data}
+use Rattle.cbsrun_report_json.specs.Json.{charges_data, server_terms, with_parts, with_counts, server_data, servers_data}
+use Rattle.cbsrun_report_json.specs.Json.{ticks_data, report_terms, with_shares, with_servers, report_data}
 
--- two numbers have no fraction
-pair_plain : (a b : ℕ) → has_float (pair_data a b) ≡ false
-unfolding pair_data
-pair_plain a b = refl
-
--- nor have the jobs of the servers
+-- the jobs of the servers have no fraction
 jobs_plain : (servers : List ServerReport) → has_float (jobs_data servers) ≡ false
 unfolding jobs_data
 jobs_plain servers = refl
@@ -50,7 +47,7 @@ charges_plain f = refl
 
 -- so the figures of a server have none
 server_plain : (s : ServerReport) → has_float (server_data s) ≡ false
-unfolding server_data server_terms with_jobs with_time
+unfolding server_data server_terms with_parts with_counts
 server_plain s = rw (
   charges_plain s.figures,
   early_plain s.figures s.figures.early_least,
@@ -65,13 +62,7 @@ servers_plain : (servers : List ServerReport) → items_have_float (servers_data
 servers_plain [] = refl
 servers_plain (s ∷ servers) = rw (server_plain s) (servers_plain servers)
 
--- a seed, or its absence, has no fraction
-seed_plain : (seed : Option ℕ) → has_float (seed_data seed) ≡ false
-unfolding seed_data
-seed_plain None = refl
-seed_plain (Some seed) = refl
-
--- nor have the ticks of a run
+-- the ticks of a run have no fraction
 ticks_plain : (r : RunReport) → has_float (ticks_data r) ≡ false
 unfolding ticks_data
 ticks_plain r = refl
@@ -83,7 +74,7 @@ report_plain r = rw (
   pair_plain r.bound.num r.bound.den,
   jobs_plain r.servers.items,
   pair_plain r.reserved.ticks r.reserved.of,
-  seed_plain r.seed,
+  whole_if_plain r.seed,
   servers_plain r.servers.items,
   ticks_plain r,
 ) refl

@@ -1,2 +1,1 @@
 mod Floats
-mod Putting

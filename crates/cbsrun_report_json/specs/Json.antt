@@ -4,19 +4,16 @@ use Rattle.cbsrun_report_text.specs.Reports.{released, is_in_time, sum_of}
 use Rattle.cbsrun_figures.specs.declared.figures.Figures.{Figures}
 use Rattle.cbsrun_report_json.specs.declared.sums.Sum.{Sum}
 use Rattle.cbsrun_report_json.specs.declared.sums.Sum.TheVariants as sum
-use Rattle.std.specs.Borrow.{Bor}
 use Rattle.std.specs.List.{list_all}
-use Rattle.serde_json.specs.Data.{Data, null, boolean, number, unsigned, string, array, object, Items, no_items, item, Members, no_members, put}
+use Rattle.serde_json.specs.Data.{Data, null, boolean, string, array, object, Items, Members, no_members}
 use Rattle.serde_json.specs.View.{items_of}
 use Rattle.serde_json.specs.Written.{compact_text}
 use Rattle.cbsrun_text.specs.Numbers.{mode_word}
 use Rattle.cbsrun_simulate.specs.Bounds.{Bounds}
-use Rattle.cbsrun_figures.specs.Figures.{told}
+use Rattle.cbsrun_json.specs.Members.{object_of, pair_data, told, whole, whole_if, with_members}
 use Rattle.cbsrun_figures.specs.declared.figures.Ranks.{Ranks}
 use Rattle.cbsrun_report_text.specs.declared.report.RunReport.{RunReport}
 use Rattle.cbsrun_report_text.specs.declared.report.ServerReport.{ServerReport}
-use Rattle.cbsrun_report_json.specs.declared.figures.Figure.{Figure}
-use Rattle.cbsrun_report_json.specs.declared.figures.Figure.TheVariants as figure
 use Rattle.cbsrun_report_json.specs.declared.parts.Part.{Part}
 use Rattle.cbsrun_report_json.specs.declared.parts.Part.TheVariants as part
 
@@ -29,31 +26,6 @@ figure_of sum.LateFinished f = f.late_finished
 figure_of sum.LateUnfinished f = f.late_unfinished
 figure_of sum.Run f = f.run
 figure_of sum.Charged f = f.charged
-
--- the members, and these put among them, in the order of their keys
-abbrev pub with_members : List (List ℕ × Data) → Members → Members
-with_members [] ms = ms
-with_members (m ∷ more) ms = with_members more (put m.0 m.1 ms)
-
--- the object of keys with their values
-abbrev pub object_of : List (List ℕ × Data) → Data
-object_of members = object (with_members members no_members)
-
--- a number
-abbrev pub whole : ℕ → Data
-whole n = number (unsigned n)
-
--- two numbers: a part and its whole, or a sum and a count
-unfoldable pub pair_data : ℕ → ℕ → Data
-pair_data a b = array (item (whole a) (item (whole b) no_items))
-
--- a figure, and a key with it
-abbrev pub figure_data : Figure → Data
-figure_data (figure.Whole n) = whole n
-figure_data (figure.Pair a b) = pair_data a b
-
-abbrev pub figure_member : Bor (List ℕ) × Figure → List ℕ × Data
-figure_member m = (m.0.now, figure_data m.1)
 
 -- how many jobs of the servers came, were refused, are finished, and are late
 unfoldable pub jobs_data : List ServerReport → Data
@@ -105,18 +77,8 @@ ticks_data r = object_of (
     ∷ (codes "charged", whole (told (sum_of (λ f. f.charged) r.servers.items)))
     ∷ [])
 
--- the seed of the numbers that were drawn, or null if there is none
-unfoldable pub seed_data : Option ℕ → Data
-seed_data None = null
-seed_data (Some seed) = whole seed
-
--- a part of what is told of a server or of a run, and a key with it
+-- a part of what is told of a server or of a run
 abbrev pub part_data : Part → Data
-part_data (part.Is so) = boolean so
-part_data (part.Text text) = string text.now
-part_data (part.Whole n) = whole n
-part_data (part.Pair a b) = pair_data a b
-part_data (part.Seed seed) = seed_data seed
 part_data (part.Jobs servers) = jobs_data servers.now
 part_data (part.Within s) = within_data s.now.within
 part_data (part.Units f) = units_data f.now
@@ -124,9 +86,6 @@ part_data (part.Ranks f) = ranks_data f.now f.now.responses
 part_data (part.Early f) = early_data f.now f.now.early_least
 part_data (part.Charges f) = charges_data f.now
 part_data (part.Ticks r) = ticks_data r.now
-
-abbrev pub part_member : Bor (List ℕ) × Part → List ℕ × Data
-part_member m = (m.0.now, part_data m.1)
 
 -- the members that say what a server is
 unfoldable pub server_terms : ServerReport → Members
@@ -137,28 +96,28 @@ server_terms s = with_members (
     ∷ (codes "period", whole s.reservation.period)
     ∷ []) no_members
 
--- the members, with what became of the jobs of a server
-unfoldable pub with_jobs : ServerReport → Members → Members
-with_jobs s ms = with_members (
+-- the members, with what was counted of a server
+unfoldable pub with_counts : Figures → Members → Members
+with_counts f ms = with_members (
+    (codes "exhaustions", whole f.used_up)
+    ∷ (codes "throttled_with_job_ticks", whole f.throttled)
+    ∷ (codes "greatest_backlog", whole f.greatest_backlog)
+    ∷ []) ms
+
+-- the members, with what became of the jobs of a server, and of its time
+unfoldable pub with_parts : ServerReport → Members → Members
+with_parts s ms = with_members (
     (codes "jobs", jobs_data (s ∷ []))
     ∷ (codes "within_ticks", within_data s.within)
     ∷ (codes "response_ticks", ranks_data s.figures s.figures.responses)
     ∷ (codes "early_ticks", early_data s.figures s.figures.early_least)
-    ∷ []) ms
-
--- the members, with how the time of a server went
-unfoldable pub with_time : Figures → Members → Members
-with_time f ms = with_members (
-    (codes "units", units_data f)
-    ∷ (codes "exhaustions", whole f.used_up)
-    ∷ (codes "throttled_with_job_ticks", whole f.throttled)
-    ∷ (codes "charged_ticks", charges_data f)
-    ∷ (codes "greatest_backlog", whole f.greatest_backlog)
+    ∷ (codes "units", units_data s.figures)
+    ∷ (codes "charged_ticks", charges_data s.figures)
     ∷ []) ms
 
 -- the object of a server
 unfoldable pub server_data : ServerReport → Data
-server_data s = object (with_time s.figures (with_jobs s (server_terms s)))
+server_data s = object (with_parts s (with_counts s.figures (server_terms s)))
 
 -- the objects of the servers, in their order
 abbrev pub servers_data : List ServerReport → Items
@@ -175,7 +134,7 @@ report_terms r = with_members (
     ∷ (codes "file", string (string_bytes r.file))
     ∷ (codes "unit", string (codes "tick"))
     ∷ (codes "clock", whole r.clock)
-    ∷ (codes "seed", seed_data r.seed)
+    ∷ (codes "seed", whole_if r.seed)
     ∷ (codes "backlog", whole r.backlog)
     ∷ []) no_members
 

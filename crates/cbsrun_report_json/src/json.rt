@@ -4,8 +4,9 @@ ghost use Rattle.std.specs.Prelude.{◌≡◌, IfOk, map, string_bytes};
 ghost use Rattle.serde_json.specs.View.{view};
 ghost use Rattle.cbsrun_report_json.specs.Json.{all_in_time, server_data, report_data, report_json};
 
-use crate::parts::{Part, put_parts};
+use crate::parts::Part;
 use crate::server::server_value;
+use cbsrun_json::{Scalar, line_of, put_all};
 use cbsrun_report_text::{RunReport, ServerReport};
 use serde_json::{Map, Value, put};
 use std::alloc::{AllocError, Global};
@@ -35,23 +36,32 @@ fn report_value(alloc: Global, report: &RunReport) -> Result<Value, AllocError>
 {
     let values = servers_values(alloc, &report.servers)?;
     let mut members = Map::new(alloc);
-    put_parts(
+    put_all(
         alloc,
         &mut members,
         &[
-            ("report", Part::Whole(1)),
-            ("file", Part::Text(&report.file)),
-            ("unit", Part::Text("tick")),
-            ("clock", Part::Whole(report.clock)),
-            ("seed", Part::Seed(report.seed)),
-            ("backlog", Part::Whole(report.backlog)),
-            ("ticks", Part::Ticks(report)),
-            ("bound", Part::Pair(report.bound.num(), report.bound.den())),
+            ("report", Scalar::Whole(1)),
+            ("file", Scalar::Text(&report.file)),
+            ("unit", Scalar::Text("tick")),
+            ("clock", Scalar::Whole(report.clock)),
+            ("seed", Scalar::WholeIf(report.seed)),
+            ("backlog", Scalar::Whole(report.backlog)),
+            (
+                "bound",
+                Scalar::Pair(report.bound.num(), report.bound.den()),
+            ),
             (
                 "reserved",
-                Part::Pair(report.reserved.ticks, report.reserved.of),
+                Scalar::Pair(report.reserved.ticks, report.reserved.of),
             ),
-            ("in_time", Part::Is(all_in_time(&report.servers))),
+            ("in_time", Scalar::Is(all_in_time(&report.servers))),
+        ],
+    )?;
+    put_all(
+        alloc,
+        &mut members,
+        &[
+            ("ticks", Part::Ticks(report)),
             ("jobs", Part::Jobs(&report.servers)),
         ],
     )?;
@@ -63,7 +73,6 @@ fn report_value(alloc: Global, report: &RunReport) -> Result<Value, AllocError>
 pub fn report_json(alloc: Global, report: &RunReport) -> Result<String, AllocError>
     ensures { IfOk result (λ text. string_bytes text ≡ report_json report.now) }
 {
-    let mut text = report_value(alloc, report)?.to_string(alloc)?;
-    text.push_str("\n")?;
-    Ok(text)
+    let value = report_value(alloc, report)?;
+    line_of(alloc, &value)
 }

@@ -1,7 +1,6 @@
 //! The report of a run, as JSON.
 #![tactic(auto)]
 
-mod figures;
 mod json;
 mod parts;
 mod server;

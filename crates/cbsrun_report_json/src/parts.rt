@@ -1,15 +1,15 @@
-//! The parts of a report, which are members of its objects.
+//! The parts of a report, each an object.
 
-ghost use Rattle.std.specs.Prelude.{◌≡◌, IfOk, OnOk, map};
-ghost use Rattle.serde_json.specs.View.{view, members_view};
-ghost use Rattle.cbsrun_report_json.specs.Json.{seed_data, jobs_data, within_data, units_data, ranks_data, early_data, charges_data, ticks_data, part_data, part_member, with_members};
+ghost use Rattle.std.specs.Prelude.{◌≡◌, IfOk};
+ghost use Rattle.serde_json.specs.View.{view};
+ghost use Rattle.cbsrun_report_json.specs.Json.{jobs_data, within_data, units_data, ranks_data, early_data, charges_data, ticks_data, part_data};
 
-use crate::figures::{Figure, object_of, pair_value};
-use crate::sums::{Sum, told};
+use crate::sums::Sum;
 use cbsrun_figures::Figures;
+use cbsrun_json::{Scalar, ToJson, object_of, told};
 use cbsrun_report_text::{RunReport, ServerReport};
 use cbsrun_simulate::Range;
-use serde_json::{Map, Value, put};
+use serde_json::Value;
 use std::alloc::{AllocError, Global};
 
 /// Returns how many jobs of the servers came, were refused, are finished, and are late.
@@ -20,17 +20,17 @@ fn jobs_value(alloc: Global, servers: &[ServerReport]) -> Result<Value, AllocErr
     object_of(
         alloc,
         &[
-            ("released", Figure::Whole(Sum::Released.of(servers))),
-            ("refused", Figure::Whole(Sum::Refused.of(servers))),
-            ("finished", Figure::Whole(Sum::Finished.of(servers))),
-            ("unfinished", Figure::Whole(Sum::Unfinished.of(servers))),
+            ("released", Scalar::Whole(Sum::Released.of(servers))),
+            ("refused", Scalar::Whole(Sum::Refused.of(servers))),
+            ("finished", Scalar::Whole(Sum::Finished.of(servers))),
+            ("unfinished", Scalar::Whole(Sum::Unfinished.of(servers))),
             (
                 "late_finished",
-                Figure::Whole(Sum::LateFinished.of(servers)),
+                Scalar::Whole(Sum::LateFinished.of(servers)),
             ),
             (
                 "late_unfinished",
-                Figure::Whole(Sum::LateUnfinished.of(servers)),
+                Scalar::Whole(Sum::LateUnfinished.of(servers)),
             ),
         ],
     )
@@ -47,8 +47,8 @@ fn within_value(alloc: Global, within: Option<Range>) -> Result<Value, AllocErro
     object_of(
         alloc,
         &[
-            ("least", Figure::Whole(range.least())),
-            ("greatest", Figure::Whole(range.greatest())),
+            ("least", Scalar::Whole(range.least())),
+            ("greatest", Scalar::Whole(range.greatest())),
         ],
     )
 }
@@ -61,30 +61,30 @@ fn units_value(alloc: Global, figures: &Figures) -> Result<Value, AllocError>
     object_of(
         alloc,
         &[
-            ("asked", Figure::Whole(figures.asked)),
-            ("run", Figure::Whole(figures.run)),
+            ("asked", Scalar::Whole(figures.asked)),
+            ("run", Scalar::Whole(figures.run)),
         ],
     )
 }
 
 /// Returns the response times of a server, or null if no job is finished.
-#[tactic(auto, unfolding(crate::specs::Json::ranks_data, crate::specs::Json::pair_data))]
+#[tactic(auto, unfolding(crate::specs::Json::ranks_data))]
 fn ranks_value(alloc: Global, figures: &Figures) -> Result<Value, AllocError>
     ensures { IfOk result (λ v. view v ≡ ranks_data figures.now figures.now.responses) }
 {
     let Some(ranks) = figures.responses else {
         return Ok(Value::Null);
     };
-    let mean = Figure::Pair(told(figures.response_total), figures.finished);
+    let mean = Scalar::Pair(told(figures.response_total), figures.finished);
     object_of(
         alloc,
         &[
-            ("least", Figure::Whole(ranks.least)),
+            ("least", Scalar::Whole(ranks.least)),
             ("mean", mean),
-            ("median", Figure::Whole(ranks.median)),
-            ("p95", Figure::Whole(ranks.p95)),
-            ("p99", Figure::Whole(ranks.p99)),
-            ("greatest", Figure::Whole(ranks.greatest)),
+            ("median", Scalar::Whole(ranks.median)),
+            ("p95", Scalar::Whole(ranks.p95)),
+            ("p99", Scalar::Whole(ranks.p99)),
+            ("greatest", Scalar::Whole(ranks.greatest)),
         ],
     )
 }
@@ -97,10 +97,10 @@ fn early_value(alloc: Global, figures: &Figures) -> Result<Value, AllocError>
     let Some(least) = figures.early_least else {
         return Ok(Value::Null);
     };
-    let mean = Figure::Pair(told(figures.early_total), figures.early_count);
+    let mean = Scalar::Pair(told(figures.early_total), figures.early_count);
     object_of(
         alloc,
-        &[("least", Figure::Whole(told(least))), ("mean", mean)],
+        &[("least", Scalar::Whole(told(least))), ("mean", mean)],
     )
 }
 
@@ -112,8 +112,8 @@ fn charges_value(alloc: Global, figures: &Figures) -> Result<Value, AllocError>
     object_of(
         alloc,
         &[
-            ("all", Figure::Whole(figures.charged)),
-            ("greatest", Figure::Whole(figures.greatest_charge)),
+            ("all", Scalar::Whole(figures.charged)),
+            ("greatest", Scalar::Whole(figures.greatest_charge)),
         ],
     )
 }
@@ -126,37 +126,16 @@ fn ticks_value(alloc: Global, report: &RunReport) -> Result<Value, AllocError>
     object_of(
         alloc,
         &[
-            ("run", Figure::Whole(Sum::Run.of(&report.servers))),
-            ("idle", Figure::Whole(report.idle)),
-            ("charged", Figure::Whole(Sum::Charged.of(&report.servers))),
+            ("run", Scalar::Whole(Sum::Run.of(&report.servers))),
+            ("idle", Scalar::Whole(report.idle)),
+            ("charged", Scalar::Whole(Sum::Charged.of(&report.servers))),
         ],
     )
 }
 
-/// Returns the seed of the numbers that were drawn, or null if there is none.
-#[tactic(auto, unfolding(crate::specs::Json::seed_data))]
-fn seed_value(seed: Option<u64>) -> Value
-    ensures { view result ≡ seed_data seed }
-{
-    match seed {
-        Some(seed) => Value::from(seed),
-        None => Value::Null,
-    }
-}
-
-/// A part of what is told of a server or of a run.
+/// A part of what is told of a server or of a run, which is an object.
 #[derive(Clone, Copy)]
 pub(crate) enum Part<'a> {
-    /// Whether something is so.
-    Is(bool),
-    /// A text.
-    Text(&'a str),
-    /// A number.
-    Whole(u64),
-    /// Two numbers: a part and its whole.
-    Pair(u64, u64),
-    /// The seed of the numbers that were drawn, if there is one.
-    Seed(Option<u64>),
     /// The jobs of servers.
     Jobs(&'a [ServerReport]),
     /// Within how many ticks the jobs of a server are to be finished.
@@ -173,17 +152,11 @@ pub(crate) enum Part<'a> {
     Ticks(&'a RunReport),
 }
 
-impl Part<'_> {
-    /// Returns the part as JSON. The only error is out of memory.
-    fn value(self, alloc: Global) -> Result<Value, AllocError>
-        ensures { IfOk result (λ v. view v ≡ part_data self.entry) }
-    {
-        match self {
-            Part::Is(so) => Ok(Value::from(so)),
-            Part::Text(text) => Value::try_from_str(alloc, text),
-            Part::Whole(number) => Ok(Value::from(number)),
-            Part::Pair(first, second) => pair_value(alloc, first, second),
-            Part::Seed(seed) => Ok(seed_value(seed)),
+impl ToJson for Part<'_> {
+    ghost shown = { λ p. part_data p };
+
+    fn to_json(&self, alloc: Global) -> Result<Value, AllocError> {
+        match *self {
             Part::Jobs(servers) => jobs_value(alloc, servers),
             Part::Within(server) => within_value(alloc, server.within),
             Part::Units(figures) => units_value(alloc, figures),
@@ -193,20 +166,4 @@ impl Part<'_> {
             Part::Ticks(report) => ticks_value(alloc, report),
         }
     }
-}
-
-/// Puts parts among members. The only error is out of memory.
-pub(crate) fn put_parts(
-    alloc: Global,
-    members: &mut Map<String, Value>,
-    parts: &[(&str, Part<'_>)],
-) -> Result<(), AllocError>
-    ensures { OnOk result (members_view members.new.entries
-        ≡ with_members (map part_member parts.now) (members_view members.old.entries)) }
-{
-    for part in parts {
-        let value = part.1.value(alloc)?;
-        put(members, alloc, part.0, value)?;
-    }
-    Ok(())
 }

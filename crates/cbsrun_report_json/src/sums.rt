@@ -1,18 +1,12 @@
-//! Figures of several servers, added up, and numbers as JSON has them.
+//! Figures of several servers, added up.
 
 ghost use Rattle.std.specs.Prelude.{◌≡◌};
 ghost use Rattle.cbsrun_report_text.specs.Reports.{sum_of};
-ghost use Rattle.cbsrun_figures.specs.Figures.{told};
+ghost use Rattle.cbsrun_json.specs.Members.{told};
 ghost use Rattle.cbsrun_report_json.specs.Json.{figure_of};
 
+use cbsrun_json::told;
 use cbsrun_report_text::ServerReport;
-
-/// Returns the number, or 2^64 - 1 if the number is greater.
-pub(crate) fn told(number: u128) -> u64
-    ensures { result ≡ told number }
-{
-    u64::try_from(number).unwrap_or(u64::MAX)
-}
 
 /// A figure that is added up over servers.
 #[derive(Clone, Copy)]

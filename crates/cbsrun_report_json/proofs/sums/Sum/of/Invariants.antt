@@ -1,6 +1,6 @@
 use Rattle.std.proofs.Common.{◌≡◌, take}
 use Rattle.cbsrun_report_text.specs.Reports.{sum_of}
-use Rattle.cbsrun_figures.specs.Figures.{told}
+use Rattle.cbsrun_json.specs.Members.{told}
 use Rattle.cbsrun_report_json.specs.Json.{figure_of}
 use Rattle.cbsrun_report_json.proofs.sums.Sum.of.Given as goal
 

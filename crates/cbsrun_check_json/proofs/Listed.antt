@@ -1,0 +1,52 @@
+-- Servers and sources of a load, one after the other.
+use Rattle.std.proofs.Common.{◌≡◌, ℕ, ◌+◌, ◌<◌, List, [], ◌∷◌, ◌++◌, length, take, get_or, refl, sym, ap, ◌∙◌, arith, Option, Result}
+use Rattle.std.specs.Prelude.{codes, decimal, map}
+use Rattle.std.specs.List.{range_with_len}
+use Rattle.std.proofs.lemmas.List.{get_or-map, map_push, map_more}
+use Rattle.std.proofs.lemmas.List.FromFn.{map-range_with_len_more}
+use Rattle.serde_json.specs.Data.{object}
+use Rattle.cbs_guarantee.specs.Parts.{rate_at}
+use Rattle.cbs_guarantee.specs.declared.source.NotPromised.{NotPromised}
+use Rattle.cbs_rate.specs.Plan.{Planned}
+use Rattle.cbs_rate.specs.Rate.{Rate}
+use Rattle.cbs_rules.specs.declared.mode.Mode.{Mode}
+use Rattle.cbs_rules.specs.declared.mode.Mode.TheVariants.{Soft}
+use Rattle.cbsrun_loads.specs.Loads.{LoadFile}
+use Rattle.cbsrun_simulate.specs.declared.terms.SourceTerms.{SourceTerms}
+use Rattle.cbsrun_sizing.specs.ServerLoads.{least_within, no_load}
+use Rattle.cbsrun_sizing.specs.declared.server_load.ServerLoad.{ServerLoad}
+use Rattle.cbsrun_check_json.specs.Json.{numbered_at, promised_for, server_at, server_data, server_terms, source_data, source_of}
+
+-- elements by a function of the number of each, and one more
+pub mapped_more : {X Y : Type 0} (f : X → Y) (g : ℕ → Y) (xs : List X) (x : X) (n : ℕ) → map f xs ≡ map g (range_with_len 0 n) → f x ≡ g n
+    → map f (xs ++ x ∷ []) ≡ map g (range_with_len 0 (n + 1))
+mapped_more f g xs x n old here = map_push f xs x ∙ rw (old, here) (sym (map-range_with_len_more g 0 n n (omega arith)))
+
+-- the same of the elements of a list
+pub listed_more : {X Y Z : Type 0} (f : X → Y) (g : Z → Y) (xs : List X) (x : X) (zs : List Z) (i : ℕ) (d : Z) → i < length zs
+    → map f xs ≡ map g (take i zs) → f x ≡ g (get_or zs i d) → map f (xs ++ x ∷ []) ≡ map g (take (i + 1) zs)
+listed_more f g xs x zs i d lt old here = map_push f xs x ∙ rw (old, here, map_more g zs i d lt) refl
+
+-- a name that was read at a place
+pub name_is : {X : Type 0} (f : X → List ℕ) (xs : List X) (i j : ℕ) (x : X) (name : List ℕ) → j < length xs → i ≡ j → x ≡ get_or xs i x → name ≡ f x
+    → get_or (map f xs) j [] ≡ name
+name_is f xs i j x name lt e is n = get_or-map f xs j x [] lt ∙ (ap f (sym (rw e at is)) ∙ sym n)
+
+-- a server, by its parts
+pub server_is : (f : LoadFile) (budgets : List ℕ) (loads : List ServerLoad) (s : ℕ) (name : List ℕ) (mode : Mode) (rate : Rate) (greatest : ℕ)
+    (within : Option ℕ) (load : ServerLoad)
+    → get_or f.names s [] ≡ name → get_or f.modes s Soft ≡ mode → rate_at f.plan.rates s ≡ rate → get_or budgets s 0 ≡ greatest
+    → within ≡ least_within f.sources s → get_or loads s no_load ≡ load
+    → server_at f budgets loads s ≡ server_data name mode rate greatest within load
+server_is f budgets loads s name mode rate greatest within load e m r g w l = rw (e, m, r, g, w, l) refl
+
+-- a source, by its parts
+pub source_is : (f : LoadFile) (loads : List ServerLoad) (t : SourceTerms) (name : List ℕ) (promised : Result ℕ NotPromised)
+    → get_or f.names t.server [] ≡ name → promised ≡ promised_for loads t.server → source_of f loads t ≡ source_data name promised t
+source_is f loads t name promised e p = rw (e, p) refl
+
+-- a server that is called by its number, by its parts
+pub numbered_is : (modes : List Mode) (plan : Planned) (budgets : List ℕ) (s : ℕ) (name : List ℕ) (mode : Mode) (rate : Rate) (greatest : ℕ)
+    → name ≡ codes "server " ++ decimal s → get_or modes s Soft ≡ mode → rate_at plan.rates s ≡ rate → get_or budgets s 0 ≡ greatest
+    → numbered_at modes plan budgets s ≡ object (server_terms name mode rate greatest)
+numbered_is modes plan budgets s name mode rate greatest n m r g = rw (n, m, r, g) refl
