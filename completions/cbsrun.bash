@@ -37,7 +37,11 @@ _cbsrun() {
     COMPREPLY=()
     case $options$before in
         yes--as)
-            _cbsrun_words lines report json text svg trace
+            case $command in
+                check) _cbsrun_words report json ;;
+                simulate) _cbsrun_words report json text svg trace lines csv ;;
+                *) _cbsrun_words lines report json text svg trace ;;
+            esac
             return
             ;;
         yes--from | yes--to | yes--seed | yes--until) return ;;
@@ -46,7 +50,7 @@ _cbsrun() {
         ,yes,-*) _cbsrun_words -h --help -V --version ;;
         ,*) _cbsrun_words check size simulate replay serve help ;;
         help,*) _cbsrun_words check size simulate replay serve ;;
-        check,yes,-*) _cbsrun_words --strict -h --help ;;
+        check,yes,-*) _cbsrun_words --as --strict -h --help ;;
         size,yes,-*) _cbsrun_words --all -h --help ;;
         simulate,yes,-*) _cbsrun_words --as --from --to --seed --until --strict -h --help ;;
         replay,yes,-*) _cbsrun_words --as --from --to -h --help ;;
