@@ -78,6 +78,7 @@ check_plain name f budgets loads = rw (
   long_if_plain (recovery f),
   servers_plain f budgets loads (range_with_len 0 (length f.plan.rates)),
   sources_plain f loads f.sources,
+  whole_if_plain f.tick,
 ) refl
 
 -- a server that is called by its number has none

@@ -155,9 +155,9 @@ plan_terms name plan = with_members (
     ∷ (codes "reserved", pair_data (reserved plan.rates) (common_multiple plan.rates))
     ∷ []) no_members
 
--- the same of a load, with its backlog
+-- the same of a load, with its backlog, and the nanoseconds of a tick, if they are known
 unfoldable pub load_terms : List ℕ → LoadFile → Members
-load_terms name f = with_members ((codes "backlog", whole f.backlog) ∷ []) (plan_terms name f.plan)
+load_terms name f = with_members ((codes "backlog", whole f.backlog) ∷ (codes "tick_nanoseconds", whole_if f.tick) ∷ []) (plan_terms name f.plan)
 
 -- the members, with what is promised of the jobs of a load
 unfoldable pub with_promises : LoadFile → List ℕ → List ServerLoad → Members → Members

@@ -102,7 +102,10 @@ fn load_terms(alloc: Global, name: &str, load: &Load) -> Result<Map<String, Valu
     put_all(
         alloc,
         &mut members,
-        &[("backlog", Scalar::Whole(load.backlog()))],
+        &[
+            ("backlog", Scalar::Whole(load.backlog())),
+            ("tick_nanoseconds", Scalar::WholeIf(load.tick())),
+        ],
     )?;
     Ok(members)
 }

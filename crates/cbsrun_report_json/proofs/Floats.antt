@@ -76,5 +76,6 @@ report_plain r = rw (
   pair_plain r.reserved.ticks r.reserved.of,
   whole_if_plain r.seed,
   servers_plain r.servers.items,
+  whole_if_plain r.tick,
   ticks_plain r,
 ) refl

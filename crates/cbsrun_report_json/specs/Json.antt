@@ -135,6 +135,7 @@ report_terms r = with_members (
     ∷ (codes "unit", string (codes "tick"))
     ∷ (codes "clock", whole r.clock)
     ∷ (codes "seed", whole_if r.seed)
+    ∷ (codes "tick_nanoseconds", whole_if r.tick)
     ∷ (codes "backlog", whole r.backlog)
     ∷ []) no_members
 

@@ -45,6 +45,7 @@ fn report_value(alloc: Global, report: &RunReport) -> Result<Value, AllocError>
             ("unit", Scalar::Text("tick")),
             ("clock", Scalar::Whole(report.clock)),
             ("seed", Scalar::WholeIf(report.seed)),
+            ("tick_nanoseconds", Scalar::WholeIf(report.tick)),
             ("backlog", Scalar::Whole(report.backlog)),
             (
                 "bound",

@@ -90,7 +90,7 @@ const CHARGED: [&str; 12] = [
     r#"{"budget":1,"charged_ticks":{"all":0,"greatest":0},"early_ticks":null,"exhaustions":0,"greatest_backlog":1,"#,
     r#""jobs":{"finished":0,"late_finished":0,"late_unfinished":0,"refused":0,"released":1,"unfinished":1},"mode":"soft","name":"leg \"2\"","#,
     r#""period":30,"response_ticks":null,"throttled_with_job_ticks":0,"units":{"asked":5,"run":0},"within_ticks":null}],"#,
-    r#""ticks":{"charged":11,"idle":69,"run":20},"unit":"tick"}"#,
+    r#""tick_nanoseconds":null,"ticks":{"charged":11,"idle":69,"run":20},"unit":"tick"}"#,
 ];
 
 #[test]
