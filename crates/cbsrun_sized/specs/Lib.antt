@@ -1,3 +1,4 @@
+pub mod Admitted
 pub mod Sized
 -- what the clauses name of the libraries below
 pub use Rattle.cbsrun_loads.specs.Sketches

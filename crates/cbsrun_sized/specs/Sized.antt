@@ -1,5 +1,5 @@
 -- A sketch with a reservation for each of its servers, as a load file.
-use Rattle.std.specs.Prelude.{◌≡◌, ℕ, ◌<◌, Bool, if◌then◌else◌, get_or, length, List, [], MatchOption, Option, Some, None, Ok, Err, string_bytes}
+use Rattle.std.specs.Prelude.{◌≡◌, ℕ, ◌<◌, Bool, false, if◌then◌else◌, get_or, length, List, [], MatchOption, Option, Some, None, Ok, Err, string_bytes}
 use Rattle.cbs_guarantee.specs.Parts.{rate_at}
 use Rattle.cbs_rate.specs.Rate.{Rate}
 use Rattle.cbs_rules.specs.declared.mode.Mode.TheVariants.{Soft}
@@ -10,6 +10,7 @@ use Rattle.cbsrun_loads.specs.declared.sketch.Given.{Given}
 use Rattle.cbsrun_proposals.specs.Proposals.{rate, rate_of, IsEnough, IsNotEnough, IsProposal}
 use Rattle.cbsrun_proposals.specs.declared.remedy.Proposal.{Proposal}
 use Rattle.cbsrun_sizing.specs.ServerLoads.{sources_of, wanted_in, wanted_of}
+use Rattle.cbsrun_sized.specs.Admitted.{are_admitted}
 use Rattle.cbsrun_sized.specs.declared.not_sized.NotSized.{NotSized}
 use Rattle.cbsrun_sized.specs.declared.not_sized.NotSized.TheVariants.{OutOfMemory, NothingProposed, NotAdmitted, NotPromised, SpellsAnother}
 
@@ -63,11 +64,17 @@ pub record IsSized (k : SketchFile) (all : Bool) (text : List ℕ) : Type 0 wher
   pub completed : IsCompleted k all f
   pub in_time : AreInTime f
 
+-- one executor does not take all the reservations
+pub record IsTooMuch (k : SketchFile) (all : Bool) : Type 0 where
+  pub rates : List Proposal
+  pub reservations : AreReservations k all (length k.servers) rates
+  pub refused : are_admitted k.bound rates ≡ false
+
 -- why a sketch is not sized. What is not admitted is the load with the reservations; who is not promised, is not so in it
 abbrev pub IsWhyNot : SketchFile → Bool → NotSized → Type 0
 IsWhyNot k all OutOfMemory = Unit {0}
 IsWhyNot k all (NothingProposed s) = (s < length k.servers) × (given_in k all s ≡ None) × IsProposedFor k s None
-IsWhyNot k all (NotAdmitted text fault) = load (string_bytes text) ≡ Err fault
+IsWhyNot k all (NotAdmitted text fault) = IsTooMuch k all × (load (string_bytes text) ≡ Err fault)
 IsWhyNot k all (NotPromised s) = (f : LoadFile) × IsCompleted k all f × (s < length k.servers)
     × IsNotEnough (sources_of s f.sources) (wanted_of f s) (rate_at f.plan.rates s)
 IsWhyNot k all SpellsAnother = Unit {0}

@@ -2,6 +2,7 @@
 //! answer is a load file.
 #![tactic(auto)]
 
+mod admitted;
 mod given;
 mod not_sized;
 mod same;

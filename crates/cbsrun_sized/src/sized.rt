@@ -4,8 +4,9 @@ ghost use Rattle.std.specs.Prelude.{◌≡◌, ◌≢◌, ◌<◌, ℕ, Bool, ge
 ghost use Rattle.cbsrun_loads.specs.Sketches.{SketchFile};
 ghost use Rattle.cbsrun_loads.specs.Spelling.{load};
 ghost use Rattle.cbsrun_sizing.specs.ServerLoads.{no_load};
-ghost use Rattle.cbsrun_sized.specs.Sized.{IsSized, IsWhyNot};
+ghost use Rattle.cbsrun_sized.specs.Sized.{IsSized, IsTooMuch, IsWhyNot};
 
+use crate::admitted::are_admitted;
 use crate::given::reservations_of;
 use crate::not_sized::NotSized;
 use crate::same::is_completed;
@@ -15,6 +16,17 @@ use cbsrun_sizing::{ServerLoad, server_loads};
 use cbsrun_toml_tables::FileKind;
 use std::alloc::Global;
 
+/// Returns why a sketch is not sized of whose reservations, in the load file `text`, one executor does not take all.
+fn not_admitted(alloc: Global, text: String) -> NotSized
+    ensures { (k : SketchFile) (all : Bool) → IsTooMuch k all → IsWhyNot k all result }
+{
+    match read_load(alloc, text.as_bytes()) {
+        Err(fault) if fault.kind == FileKind::OutOfMemory => NotSized::OutOfMemory,
+        Err(fault) => NotSized::NotAdmitted { text, fault },
+        Ok(_) => NotSized::SpellsAnother,
+    }
+}
+
 /// Returns the load that a text spells.
 fn spelled(alloc: Global, text: String) -> Result<(Load, String), NotSized>
     ensures ok { IfOk result (λ r. (load (string_bytes text) ≡ Ok r.0) × (r.1 ≡ text)) }
@@ -23,7 +35,7 @@ fn spelled(alloc: Global, text: String) -> Result<(Load, String), NotSized>
     match read_load(alloc, text.as_bytes()) {
         Ok(load) => Ok((load, text)),
         Err(fault) if fault.kind == FileKind::OutOfMemory => Err(NotSized::OutOfMemory),
-        Err(fault) => Err(NotSized::NotAdmitted { text, fault }),
+        Err(_) => Err(NotSized::SpellsAnother),
     }
 }
 
@@ -54,6 +66,9 @@ pub fn sized_load(alloc: Global, sketch: &Sketch, all: bool) -> Result<String, N
 {
     let reservations = reservations_of(alloc, sketch, all)?;
     let text = load_text(alloc, sketch, all, &reservations)?;
+    if !are_admitted(sketch.bound(), &reservations) {
+        return Err(not_admitted(alloc, text));
+    }
     let (load, text) = spelled(alloc, text)?;
     if !is_completed(&load, sketch, &reservations) {
         return Err(NotSized::SpellsAnother);
