@@ -13,10 +13,10 @@ use crate::lost::write_loss;
 use crate::progress::Teller;
 use cbsrun_commands::{
     Action, Asked, BAD_FILE, ByteOutput, DONE, Form, MEMORY_VARIABLE, Progress, RUN_FAULT,
-    RunError, ToWrite, WRONG_WORDS, WordsFault, check_bytes_within, draw_load_within,
+    RunError, SweepForm, ToWrite, WRONG_WORDS, WordsFault, check_bytes_within, draw_load_within,
     draw_tasks_within, memory_bound, read_words, report_bytes_within, run_bytes_within,
     simulate_bytes_within, simulate_jobs_within, simulate_lines_within, size_bytes_within,
-    write_pieces, write_read_fault, write_run_fault,
+    sweep_bytes_within, write_pieces, write_read_fault, write_run_fault,
 };
 use cbsrun_tasks::MEMORY;
 use cbsrun_text_colours::Painted;
@@ -95,6 +95,9 @@ fn answered<R: Threads + Clock + Sync, P: Progress, O: ByteOutput, E: ByteOutput
         Action::WriteLoadJobs(changes) => {
             simulate_jobs_within(alloc, memory, changes, name, bytes, progress, out, err)
         }
+        Action::SweepLoad(sweep) => {
+            sweep_bytes_within(alloc, memory, sweep, name, bytes, out, err)
+        }
         Action::DrawLoad(drawing, ticks, changes) => draw_load_within(
             alloc, memory, drawing, ticks, changes, name, bytes, progress, out, err,
         ),
@@ -118,6 +121,7 @@ fn is_for_people(action: Action) -> bool {
     match action {
         Action::Check { form, .. } => form == Form::Report,
         Action::ReportLoad(report) => report.form == Form::Report,
+        Action::SweepLoad(sweep) => sweep.form == SweepForm::Report,
         Action::ReportTasks(form) => form == Form::Report,
         _ => false,
     }

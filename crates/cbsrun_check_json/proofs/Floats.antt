@@ -13,6 +13,7 @@ use Rattle.cbsrun_json.proofs.Plain.{long_if_plain, pair_if_plain, pair_plain, t
 use Rattle.cbsrun_loads.specs.Loads.{LoadFile}
 use Rattle.cbsrun_proposals.specs.declared.remedy.Proposal.{Proposal}
 use Rattle.cbsrun_proposals.specs.declared.remedy.Remedy.{Remedy}
+use Rattle.cbsrun_simulate.specs.Released.{distance}
 use Rattle.cbsrun_simulate.specs.declared.terms.SourceTerms.{SourceTerms}
 use Rattle.cbsrun_sizing.specs.Budgets.{reserved}
 use Rattle.cbsrun_sizing.specs.Recoveries.{recovery}
@@ -21,16 +22,16 @@ use Rattle.cbsrun_check_json.specs.Json.{asked_pair, check_data, is_in_time, loa
 use Rattle.cbsrun_check_json.specs.Json.{server_at, server_data, server_terms, source_data, source_of, with_figures, with_promises}
 
 -- a proposal, or its absence, has no fraction
-proposal_plain : (p : Option Proposal) (room : ℕ) → has_float (proposal_data p room) ≡ false
+proposal_plain : (p : Option Proposal) (kept : Option ℕ) (room : ℕ) → has_float (proposal_data p kept room) ≡ false
 unfolding proposal_data
-proposal_plain None room = refl
-proposal_plain (Some p) room = refl
+proposal_plain None kept room = refl
+proposal_plain (Some p) kept room = rw (whole_if_plain kept) refl
 
 -- nor has a remedy
-remedy_plain : (r : Option Remedy) (room : ℕ) → has_float (remedy_data r room) ≡ false
+remedy_plain : (r : Option Remedy) (kept : Option ℕ) (room : ℕ) → has_float (remedy_data r kept room) ≡ false
 unfolding remedy_data
-remedy_plain None room = refl
-remedy_plain (Some r) room = rw (whole_if_plain r.backlog, proposal_plain r.reservation room) refl
+remedy_plain None kept room = refl
+remedy_plain (Some r) kept room = rw (whole_if_plain r.backlog, whole_if_plain r.delayed, proposal_plain r.reservation kept room) refl
 
 -- so a server has none
 server_plain : (name : List ℕ) (mode : Mode) (rate : Rate) (greatest : ℕ) (within : Option ℕ) (l : ServerLoad)
@@ -42,7 +43,7 @@ server_plain name mode rate greatest within l = rw (
   whole_if_plain (result_ok l.promised),
   text_if_plain (reason_of (needs_none l.remedy) l.promised),
   whole_if_plain (needed_backlog l.promised),
-  remedy_plain l.remedy l.room,
+  remedy_plain l.remedy l.kept l.room,
 ) refl
 
 -- nor have servers
@@ -58,7 +59,7 @@ source_plain name promised t = rw (
   pair_plain t.every.least t.every.greatest,
   pair_plain t.units.least t.units.greatest,
   pair_plain t.overrun.least t.overrun.greatest,
-  pair_plain _ t.every.least,
+  pair_plain _ (distance t),
   whole_if_plain t.within,
   whole_if_plain (result_ok promised),
   text_if_plain (reason_of (is_in_time promised t.within) promised),

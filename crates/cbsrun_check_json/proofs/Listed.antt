@@ -1,9 +1,7 @@
--- Servers and sources of a load, one after the other.
-use Rattle.std.proofs.Common.{◌≡◌, ℕ, ◌+◌, ◌<◌, List, [], ◌∷◌, ◌++◌, length, take, get_or, refl, sym, ap, ◌∙◌, arith, Option, Result}
+-- Servers and sources of a load, by their parts.
+use Rattle.std.proofs.Common.{◌≡◌, ℕ, ◌<◌, List, [], ◌++◌, length, get_or, refl, sym, ap, ◌∙◌, Option, Result}
 use Rattle.std.specs.Prelude.{codes, decimal, map}
-use Rattle.std.specs.List.{range_with_len}
-use Rattle.std.proofs.lemmas.List.{get_or-map, map_push, map_more}
-use Rattle.std.proofs.lemmas.List.FromFn.{map-range_with_len_more}
+use Rattle.std.proofs.lemmas.List.{get_or-map}
 use Rattle.serde_json.specs.Data.{object}
 use Rattle.cbs_guarantee.specs.Parts.{rate_at}
 use Rattle.cbs_guarantee.specs.declared.source.NotPromised.{NotPromised}
@@ -16,16 +14,6 @@ use Rattle.cbsrun_simulate.specs.declared.terms.SourceTerms.{SourceTerms}
 use Rattle.cbsrun_sizing.specs.ServerLoads.{least_within, no_load}
 use Rattle.cbsrun_sizing.specs.declared.server_load.ServerLoad.{ServerLoad}
 use Rattle.cbsrun_check_json.specs.Json.{numbered_at, promised_for, server_at, server_data, server_terms, source_data, source_of}
-
--- elements by a function of the number of each, and one more
-pub mapped_more : {X Y : Type 0} (f : X → Y) (g : ℕ → Y) (xs : List X) (x : X) (n : ℕ) → map f xs ≡ map g (range_with_len 0 n) → f x ≡ g n
-    → map f (xs ++ x ∷ []) ≡ map g (range_with_len 0 (n + 1))
-mapped_more f g xs x n old here = map_push f xs x ∙ rw (old, here) (sym (map-range_with_len_more g 0 n n (omega arith)))
-
--- the same of the elements of a list
-pub listed_more : {X Y Z : Type 0} (f : X → Y) (g : Z → Y) (xs : List X) (x : X) (zs : List Z) (i : ℕ) (d : Z) → i < length zs
-    → map f xs ≡ map g (take i zs) → f x ≡ g (get_or zs i d) → map f (xs ++ x ∷ []) ≡ map g (take (i + 1) zs)
-listed_more f g xs x zs i d lt old here = map_push f xs x ∙ rw (old, here, map_more g zs i d lt) refl
 
 -- a name that was read at a place
 pub name_is : {X : Type 0} (f : X → List ℕ) (xs : List X) (i j : ℕ) (x : X) (name : List ℕ) → j < length xs → i ≡ j → x ≡ get_or xs i x → name ≡ f x

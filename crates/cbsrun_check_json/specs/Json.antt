@@ -19,6 +19,7 @@ use Rattle.cbsrun_loads.specs.Loads.{LoadFile}
 use Rattle.cbsrun_proposals.specs.declared.remedy.Proposal.{Proposal}
 use Rattle.cbsrun_proposals.specs.declared.remedy.Remedy.{Remedy}
 use Rattle.cbsrun_simulate.specs.Bounds.{Bounds}
+use Rattle.cbsrun_simulate.specs.Released.{distance}
 use Rattle.cbsrun_simulate.specs.declared.terms.SourceTerms.{SourceTerms}
 use Rattle.cbsrun_sizing.specs.Budgets.{reserved, is_within, AreGreatest}
 use Rattle.cbsrun_sizing.specs.Lateness.{greatest_delay, BoundsLateness}
@@ -52,21 +53,26 @@ abbrev pub is_in_time : Result ℕ NotPromised → Option ℕ → Bool
 is_in_time (Ok time) within = is_within time within
 is_in_time (Err why) within = false
 
--- a proposal, and whether it fits if so much fits at its period
-unfoldable pub proposal_data : Option Proposal → ℕ → Data
-proposal_data None room = null
-proposal_data (Some p) room = object_of (
+-- a proposal, the `within` that a source has to say with it, and whether it fits if so much fits at its period
+unfoldable pub proposal_data : Option Proposal → Option ℕ → ℕ → Data
+proposal_data None kept room = null
+proposal_data (Some p) kept room = object_of (
     (codes "budget", whole p.budget)
     ∷ (codes "period", whole p.period)
+    ∷ (codes "within", whole_if kept)
     ∷ (codes "greatest_budget", whole room)
     ∷ (codes "fits", boolean (leb p.budget room))
     ∷ [])
 
 -- what would do, or null if the reservation and the backlog do
-unfoldable pub remedy_data : Option Remedy → ℕ → Data
-remedy_data None room = null
-remedy_data (Some r) room =
-    object_of ((codes "backlog", whole_if r.backlog) ∷ (codes "reservation", proposal_data r.reservation room) ∷ [])
+unfoldable pub remedy_data : Option Remedy → Option ℕ → ℕ → Data
+remedy_data None kept room = null
+remedy_data (Some r) kept room =
+    object_of (
+    (codes "backlog", whole_if r.backlog)
+    ∷ (codes "delayed_by", whole_if r.delayed)
+    ∷ (codes "reservation", proposal_data r.reservation kept room)
+    ∷ [])
 
 -- the ticks that are asked for, in every so many, if that is summed
 abbrev pub asked_pair : Option Asked → Option (ℕ × ℕ)
@@ -97,7 +103,7 @@ with_figures within l ms = with_members (
     ∷ (codes "in_time_always", boolean (needs_none l.remedy))
     ∷ (codes "reason", text_if (reason_of (needs_none l.remedy) l.promised))
     ∷ (codes "needed_backlog", whole_if (needed_backlog l.promised))
-    ∷ (codes "remedy", remedy_data l.remedy l.room)
+    ∷ (codes "remedy", remedy_data l.remedy l.kept l.room)
     ∷ []) ms
 
 -- the object of a server
@@ -109,14 +115,15 @@ abbrev pub range_scalar : Bounds → Scalar
 range_scalar r = scalar.Pair r.least r.greatest
 
 -- a source of a server with this name, of which so much is promised. It asks for the most ticks of a job in the least
--- ticks to the next
+-- ticks to the next, which may be fewer by the jitter
 unfoldable pub source_data : List ℕ → Result ℕ NotPromised → SourceTerms → Data
 source_data name promised t = object_of (
     (codes "server", string name)
     ∷ (codes "every", pair_data t.every.least t.every.greatest)
+    ∷ (codes "jitter", whole t.jitter)
     ∷ (codes "units", pair_data t.units.least t.units.greatest)
     ∷ (codes "overrun", pair_data t.overrun.least t.overrun.greatest)
-    ∷ (codes "asked", pair_data (told (t.units.greatest * (1 + t.overrun.greatest))) t.every.least)
+    ∷ (codes "asked", pair_data (told (t.units.greatest * (1 + t.overrun.greatest))) (distance t))
     ∷ (codes "within", whole_if t.within)
     ∷ (codes "finished_within", whole_if (result_ok promised))
     ∷ (codes "in_time_always", boolean (is_in_time promised t.within))

@@ -14,11 +14,16 @@ use cbsrun_text::mode_word;
 use serde_json::{Map, Value, put};
 use std::alloc::{AllocError, Global};
 
-/// Returns a proposal, and whether it fits if so much fits at its period, or null if there is none. The only error is out
-/// of memory.
+/// Returns a proposal, the `within` that a source has to say with it, and whether it fits if so much fits at its period. If
+/// there is no proposal, returns null. The only error is out of memory.
 #[tactic(auto, unfolding(crate::specs::Json::proposal_data))]
-fn proposal_value(alloc: Global, proposal: Option<Proposal>, room: u64) -> Result<Value, AllocError>
-    ensures { IfOk result (λ v. view v ≡ proposal_data proposal room) }
+fn proposal_value(
+    alloc: Global,
+    proposal: Option<Proposal>,
+    kept: Option<u64>,
+    room: u64,
+) -> Result<Value, AllocError>
+    ensures { IfOk result (λ v. view v ≡ proposal_data proposal kept room) }
 {
     let Some(proposal) = proposal else {
         return Ok(Value::Null);
@@ -28,6 +33,7 @@ fn proposal_value(alloc: Global, proposal: Option<Proposal>, room: u64) -> Resul
         &[
             ("budget", Scalar::Whole(proposal.budget)),
             ("period", Scalar::Whole(proposal.period)),
+            ("within", Scalar::WholeIf(kept)),
             ("greatest_budget", Scalar::Whole(room)),
             ("fits", Scalar::Is(proposal.budget <= room)),
         ],
@@ -36,18 +42,26 @@ fn proposal_value(alloc: Global, proposal: Option<Proposal>, room: u64) -> Resul
 
 /// Returns what would do for a server, or null if its reservation and backlog do. The only error is out of memory.
 #[tactic(auto, unfolding(crate::specs::Json::remedy_data))]
-fn remedy_value(alloc: Global, remedy: Option<Remedy>, room: u64) -> Result<Value, AllocError>
-    ensures { IfOk result (λ v. view v ≡ remedy_data remedy room) }
+fn remedy_value(
+    alloc: Global,
+    remedy: Option<Remedy>,
+    kept: Option<u64>,
+    room: u64,
+) -> Result<Value, AllocError>
+    ensures { IfOk result (λ v. view v ≡ remedy_data remedy kept room) }
 {
     let Some(remedy) = remedy else {
         return Ok(Value::Null);
     };
-    let proposal = proposal_value(alloc, remedy.reservation, room)?;
+    let proposal = proposal_value(alloc, remedy.reservation, kept, room)?;
     let mut members = Map::new(alloc);
     put_all(
         alloc,
         &mut members,
-        &[("backlog", Scalar::WholeIf(remedy.backlog))],
+        &[
+            ("backlog", Scalar::WholeIf(remedy.backlog)),
+            ("delayed_by", Scalar::WholeIf(remedy.delayed)),
+        ],
     )?;
     put(&mut members, alloc, "reservation", proposal)?;
     Ok(Value::Object(members))
@@ -111,7 +125,7 @@ pub(crate) fn put_figures(
         ≡ with_figures within load (members_view members.old.entries)) }
 {
     let in_time = needs_none(load.remedy);
-    let remedy = remedy_value(alloc, load.remedy, load.room)?;
+    let remedy = remedy_value(alloc, load.remedy, load.kept, load.room)?;
     put_all(
         alloc,
         members,

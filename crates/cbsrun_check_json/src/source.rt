@@ -43,12 +43,10 @@ pub(crate) fn source_value(
         &[
             ("server", Scalar::Text(name)),
             ("every", pair_of(terms.every)),
+            ("jitter", Scalar::Whole(terms.jitter)),
             ("units", pair_of(terms.units)),
             ("overrun", pair_of(terms.overrun)),
-            (
-                "asked",
-                Scalar::Pair(most_ticks(terms), terms.every.least()),
-            ),
+            ("asked", Scalar::Pair(most_ticks(terms), terms.distance())),
             ("within", Scalar::WholeIf(terms.within)),
             ("finished_within", Scalar::WholeIf(promised.ok())),
             ("in_time_always", Scalar::Is(in_time)),

@@ -32,17 +32,21 @@ late_by_text tick n =
 abbrev pub is_overrunning : List SourceTerms → Bool
 is_overrunning sources = list_any (λ t. ltb 0 t.overrun.greatest) sources
 
+-- a great number of ticks: in milliseconds, if the nanoseconds of a tick are known and there are fewer than 2^64 ticks
+abbrev pub great_text : Option ℕ → ℕ → List ℕ
+great_text tick n = if ltb n 18446744073709551616 then ticks_text tick n else decimal n ++ codes " ticks"
+
 -- what one unit overruns is made up within this many ticks, by what is free
-unfoldable pub made_up_text : List Rate → ℕ → List ℕ
-made_up_text rates n =
-    codes "What one unit overruns is made up within " ++ decimal n ++ codes " ticks, since " ++ fraction_text (free rates) (common_multiple rates)
+unfoldable pub made_up_text : Option ℕ → List Rate → ℕ → List ℕ
+made_up_text tick rates n =
+    codes "What one unit overruns is made up within " ++ great_text tick n ++ codes ", since " ++ fraction_text (free rates) (common_multiple rates)
     ++ codes " of the time is free.\n"
 
 -- within how many ticks what one unit overruns is made up, or that it may never be
 abbrev pub recovery_text : LoadFile → List ℕ
 recovery_text f = elim (recovery f) [
   | None ↦ codes "Every tick is reserved, so what a unit overruns may never be made up.\n"
-  | Some n ↦ made_up_text f.plan.rates n
+  | Some n ↦ made_up_text f.tick f.plan.rates n
 ]
 
 -- an empty line, how late servers can be, and how soon that is made up, if units of a source may overrun

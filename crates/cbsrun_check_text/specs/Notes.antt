@@ -64,21 +64,37 @@ unfoldable pub fit_text : Option ℕ → ℕ → ℕ → List ℕ
 fit_text tick budget room =
     if leb budget room then codes ", and fits\n" else codes ", but at most " ++ time_text tick room ++ codes " fits\n"
 
+-- the `within` that a source has to say besides, if there is one
+unfoldable pub kept_text : Option ℕ → Option ℕ → List ℕ
+kept_text tick None = []
+kept_text tick (Some within) = codes ", with within = " ++ time_text tick within ++ codes ","
+
+-- a budget in every period, and what has to be said besides
+unfoldable pub proposal_text : Option ℕ → Proposal → Option ℕ → List ℕ
+proposal_text tick r kept = codes "      " ++ time_text tick r.budget ++ codes " in every " ++ time_text tick r.period ++ kept_text tick kept
+
+-- that no reservation was found, or that none would do, since the others may delay the jobs for longer than is wanted
+unfoldable pub none_text : Option ℕ → Option ℕ → List ℕ
+none_text tick None = codes "      no reservation that was tried would do\n"
+none_text tick (Some delay) = codes "      no reservation would do: units of others may delay it by " ++ time_text tick delay ++ codes "\n"
+
 -- a reservation that would do, and whether it fits
-unfoldable pub reservation_text : Option ℕ → Option Proposal → ℕ → List ℕ
-reservation_text tick None room = codes "      no reservation that was tried would do\n"
-reservation_text tick (Some r) room =
-    codes "      " ++ time_text tick r.budget ++ codes " in every " ++ time_text tick r.period ++ codes " would do" ++ fit_text tick r.budget room
+unfoldable pub found_text : Option ℕ → Proposal → Option ℕ → ℕ → List ℕ
+found_text tick r kept room = proposal_text tick r kept ++ codes " would do" ++ fit_text tick r.budget room
+
+-- .. or that there is none
+abbrev pub reservation_text : Option ℕ → Remedy → Option ℕ → ℕ → List ℕ
+reservation_text tick m kept room = elim m.reservation [ None ↦ none_text tick m.delayed | Some r ↦ found_text tick r kept room ]
 
 -- what would do
-unfoldable pub remedy_text : Option ℕ → Remedy → ℕ → List ℕ
-remedy_text tick m room = backlog_text m.backlog ++ reservation_text tick m.reservation room
+unfoldable pub remedy_text : Option ℕ → Remedy → Option ℕ → ℕ → List ℕ
+remedy_text tick m kept room = backlog_text m.backlog ++ reservation_text tick m kept room
 
 -- the note of a server, if a remedy is needed
 unfoldable pub note_text : Option ℕ → List ℕ → Rate → ℕ → Option ℕ → ServerLoad → List ℕ
 note_text tick name rate backlog within l = elim l.remedy [
   | None ↦ []
-  | Some m ↦ reason_text tick name backlog within l.promised ++ asked_text rate l.promised l.asked ++ remedy_text tick m l.room
+  | Some m ↦ reason_text tick name backlog within l.promised ++ asked_text rate l.promised l.asked ++ remedy_text tick m l.kept l.room
 ]
 
 -- the note of server s

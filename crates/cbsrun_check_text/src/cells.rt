@@ -1,8 +1,8 @@
 //! Cells of the tables. The only error of each call is out of memory.
 
-ghost use Rattle.std.specs.Prelude.{◌≡◌, ◌++◌, codes, IfOk, string_bytes};
+ghost use Rattle.std.specs.Prelude.{◌≡◌, ◌++◌, codes, IfOk, OnOk, string_bytes};
 ghost use Rattle.cbsrun_time_texts.specs.Texts.{amount_text, time_text};
-ghost use Rattle.cbsrun_check_text.specs.Cells.{is_marked, shown_text, cell_of};
+ghost use Rattle.cbsrun_check_text.specs.Cells.{is_marked, range_amount, shown_text, cell_of};
 
 use crate::fractions::Share;
 use cbsrun_text::{Cell, ToCell};
@@ -18,6 +18,8 @@ pub(crate) enum Shown<'a> {
     Time(Option<u64>, u64),
     /// The least and the greatest number of ticks of a range.
     Range(Option<u64>, u64, u64),
+    /// The least and the greatest number of ticks of a range, and a jitter.
+    Jittered(Option<u64>, u64, u64, u64),
     /// That each job is finished in time: within this many ticks.
     InTime(Option<u64>, u64),
     /// That each job is finished within this many ticks, which is not in time.
@@ -56,6 +58,43 @@ fn range(alloc: Global, tick: Option<u64>, least: u64, greatest: u64) -> Result<
     Ok(text)
 }
 
+/// Appends the least and the greatest number of ticks of a range, without their unit. A range of one number is written
+/// as that number.
+fn append_range_amount(
+    text: &mut String,
+    tick: Option<u64>,
+    least: u64,
+    greatest: u64,
+) -> Result<(), AllocError>
+    ensures { OnOk result (string_bytes text.new ≡ string_bytes text.old
+        ++ range_amount tick least greatest) }
+{
+    append_amount(text, tick, least)?;
+    if least == greatest {
+        return Ok(());
+    }
+    text.push_str("..")?;
+    append_amount(text, tick, greatest)
+}
+
+/// Returns a range of ticks, with a jitter after it.
+fn jittered(
+    alloc: Global,
+    tick: Option<u64>,
+    least: u64,
+    greatest: u64,
+    jitter: u64,
+) -> Result<String, AllocError>
+    ensures { IfOk result (λ text. string_bytes text ≡ range_amount tick least greatest
+        ++ codes " +" ++ time_text tick jitter) }
+{
+    let mut text = String::new(alloc);
+    append_range_amount(&mut text, tick, least, greatest)?;
+    text.push_str(" +")?;
+    append_time(&mut text, tick, jitter)?;
+    Ok(text)
+}
+
 impl Shown<'_> {
     /// Returns the text of the cell.
     fn text(self, alloc: Global) -> Result<String, AllocError>
@@ -65,6 +104,9 @@ impl Shown<'_> {
             Shown::Word(word) => String::from_str(alloc, word),
             Shown::Time(tick, ticks) => time_after(alloc, "", tick, ticks),
             Shown::Range(tick, least, greatest) => range(alloc, tick, least, greatest),
+            Shown::Jittered(tick, least, greatest, jitter) => {
+                jittered(alloc, tick, least, greatest, jitter)
+            }
             Shown::InTime(tick, ticks) => time_after(alloc, "yes, by ", tick, ticks),
             Shown::TooLate(tick, ticks) => time_after(alloc, "no, by ", tick, ticks),
             Shown::Fraction(share) | Shown::MarkedFraction(share, _) => share.fraction(alloc),

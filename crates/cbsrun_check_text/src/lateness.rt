@@ -1,7 +1,7 @@
 //! The text about how late overruns can make the servers of a load, and how soon that is made up.
 
 ghost use Rattle.std.specs.Prelude.{◌≡◌, ◌++◌, OnOk, string_bytes};
-ghost use Rattle.cbsrun_check_text.specs.Checks.{count_text, late_by_text, recovery_text, made_up_text, is_overrunning, lateness_text};
+ghost use Rattle.cbsrun_check_text.specs.Checks.{count_text, great_text, late_by_text, recovery_text, made_up_text, is_overrunning, lateness_text};
 
 use crate::fractions::append_fraction;
 use cbs_rate::Plan;
@@ -49,22 +49,35 @@ fn append_late_by(text: &mut String, tick: Option<u64>, ticks: u64) -> Result<()
     text.push_str(".\n")
 }
 
+/// Appends a great number of ticks for a sentence: in milliseconds, if the nanoseconds of a tick are known and there are
+/// fewer than 2^64 ticks. The only error is out of memory.
+fn append_great(text: &mut String, tick: Option<u64>, ticks: u128) -> Result<(), AllocError>
+    ensures { OnOk result (string_bytes text.new ≡ string_bytes text.old ++ great_text tick ticks) }
+{
+    if ticks < 18_446_744_073_709_551_616 {
+        return append_ticks(text, tick, ticks as u64);
+    }
+    append_pair(text, "", ticks)?;
+    text.push_str(" ticks")
+}
+
 /// Appends that what one unit overruns is made up within so many ticks, and what part of the time is free for it. The
 /// only error is out of memory.
 #[tactic(auto, unfolding(crate::specs::Checks::made_up_text))]
-fn append_made_up(text: &mut String, plan: &Plan, ticks: u128) -> Result<(), AllocError>
+fn append_made_up(
+    text: &mut String,
+    tick: Option<u64>,
+    plan: &Plan,
+    ticks: u128,
+) -> Result<(), AllocError>
     ensures { OnOk result (string_bytes text.new ≡ string_bytes text.old
-        ++ made_up_text plan.now.rates ticks) }
+        ++ made_up_text tick plan.now.rates ticks) }
 {
     let reserved = plan.bandwidth();
     let free = reserved.of.saturating_sub(reserved.ticks);
-    append_pair(text, "What one unit overruns is made up within ", ticks)?;
-    append_fraction(
-        text,
-        " ticks, since ",
-        u128::from(free),
-        u128::from(reserved.of),
-    )?;
+    text.push_str("What one unit overruns is made up within ")?;
+    append_great(text, tick, ticks)?;
+    append_fraction(text, ", since ", u128::from(free), u128::from(reserved.of))?;
     text.push_str(" of the time is free.\n")
 }
 
@@ -75,7 +88,7 @@ fn append_recovery(text: &mut String, load: &Load) -> Result<(), AllocError>
         ++ recovery_text load.now) }
 {
     match recovery(load) {
-        Some(ticks) => append_made_up(text, load.plan(), ticks),
+        Some(ticks) => append_made_up(text, load.tick(), load.plan(), ticks),
         None => text.push_str(
             "Every tick is reserved, so what a unit overruns may never be made up.\n",
         ),

@@ -4,7 +4,7 @@
 ghost use Rattle.std.specs.Prelude.{◌≡◌, ◌++◌, ◌<◌, ◌≤◌, length, Some, IfSome, IfOk, OnOk, string_bytes};
 ghost use Rattle.cbsrun_sizing.specs.ServerLoads.{AreServerLoads};
 ghost use Rattle.cbsrun_check_text.specs.Tables.{optional_text};
-ghost use Rattle.cbsrun_check_text.specs.Notes.{IsSummed, late_text, unfinished_text, why_text, reason_text, demand_text, asked_text, backlog_text, fit_text, reservation_text, remedy_text, note_text, notes_text, set_off};
+ghost use Rattle.cbsrun_check_text.specs.Notes.{IsSummed, late_text, unfinished_text, why_text, reason_text, demand_text, asked_text, backlog_text, fit_text, kept_text, proposal_text, found_text, none_text, reservation_text, remedy_text, note_text, notes_text, set_off};
 
 use crate::fractions::append_fraction;
 use cbs_guarantee::NotPromised;
@@ -162,26 +162,83 @@ fn append_fit(
     text.push_str(" fits\n")
 }
 
-/// Appends a reservation that would do, and whether it fits, or that none was found.
-#[tactic(auto, unfolding(crate::specs::Notes::reservation_text))]
-fn append_reservation(
+/// Appends the `within` that a source has to say besides, if there is one.
+#[tactic(auto, unfolding(crate::specs::Notes::kept_text))]
+fn append_kept(text: &mut String, tick: Option<u64>, kept: Option<u64>) -> Result<(), AllocError>
+    ensures { OnOk result (string_bytes text.new ≡ string_bytes text.old ++ kept_text tick kept) }
+{
+    let Some(within) = kept else {
+        return Ok(());
+    };
+    text.push_str(", with within = ")?;
+    append_time(text, tick, within)?;
+    text.push_str(",")
+}
+
+/// Appends a budget in every period, and what has to be said besides.
+#[tactic(auto, unfolding(crate::specs::Notes::proposal_text))]
+fn append_proposal(
     text: &mut String,
     tick: Option<u64>,
-    reservation: Option<Proposal>,
-    room: u64,
+    reservation: Proposal,
+    kept: Option<u64>,
 ) -> Result<(), AllocError>
     ensures { OnOk result (string_bytes text.new ≡ string_bytes text.old
-        ++ reservation_text tick reservation room) }
+        ++ proposal_text tick reservation kept) }
 {
-    let Some(reservation) = reservation else {
-        return text.push_str("      no reservation that was tried would do\n");
-    };
     text.push_str("      ")?;
     append_time(text, tick, reservation.budget)?;
     text.push_str(" in every ")?;
     append_time(text, tick, reservation.period)?;
+    append_kept(text, tick, kept)
+}
+
+/// Appends that no reservation was found, or that none would do, since the others may delay the jobs so long.
+#[tactic(auto, unfolding(crate::specs::Notes::none_text))]
+fn append_none(text: &mut String, tick: Option<u64>, delayed: Option<u64>) -> Result<(), AllocError>
+    ensures { OnOk result (string_bytes text.new ≡ string_bytes text.old
+        ++ none_text tick delayed) }
+{
+    let Some(delay) = delayed else {
+        return text.push_str("      no reservation that was tried would do\n");
+    };
+    text.push_str("      no reservation would do: units of others may delay it by ")?;
+    append_time(text, tick, delay)?;
+    text.push_str("\n")
+}
+
+/// Appends a reservation that would do, and whether it fits.
+#[tactic(auto, unfolding(crate::specs::Notes::found_text))]
+fn append_found(
+    text: &mut String,
+    tick: Option<u64>,
+    reservation: Proposal,
+    kept: Option<u64>,
+    room: u64,
+) -> Result<(), AllocError>
+    ensures { OnOk result (string_bytes text.new ≡ string_bytes text.old
+        ++ found_text tick reservation kept room) }
+{
+    append_proposal(text, tick, reservation, kept)?;
     text.push_str(" would do")?;
     append_fit(text, tick, reservation.budget, room)
+}
+
+/// Appends a reservation that would do, and whether it fits, or that there is none.
+fn append_reservation(
+    text: &mut String,
+    tick: Option<u64>,
+    remedy: Remedy,
+    kept: Option<u64>,
+    room: u64,
+) -> Result<(), AllocError>
+    ensures { OnOk result (string_bytes text.new ≡ string_bytes text.old
+        ++ reservation_text tick remedy kept room) }
+{
+    match remedy.reservation {
+        Some(reservation) => append_found(text, tick, reservation, kept, room),
+        None => append_none(text, tick, remedy.delayed),
+    }
 }
 
 /// Appends what would do.
@@ -190,13 +247,14 @@ fn append_remedy(
     text: &mut String,
     tick: Option<u64>,
     remedy: Remedy,
+    kept: Option<u64>,
     room: u64,
 ) -> Result<(), AllocError>
     ensures { OnOk result (string_bytes text.new ≡ string_bytes text.old
-        ++ remedy_text tick remedy room) }
+        ++ remedy_text tick remedy kept room) }
 {
     append_backlog(text, remedy.backlog)?;
-    append_reservation(text, tick, remedy.reservation, room)
+    append_reservation(text, tick, remedy, kept, room)
 }
 
 /// Appends the first line of a note: why the jobs of a server are not promised in time.
@@ -240,7 +298,7 @@ fn append_note(
     };
     append_reason(text, tick, name, backlog, within, load.promised)?;
     append_asked(text, rate, load.promised, load.asked)?;
-    append_remedy(text, tick, remedy, load.room)
+    append_remedy(text, tick, remedy, load.kept, load.room)
 }
 
 /// Returns the notes of all servers of a load, with these figures of their sources.

@@ -1,10 +1,11 @@
 //! The table of the sources.
 
 ghost use Rattle.std.specs.Prelude.{◌≡◌, ◌++◌, ◌<◌, ◌≤◌, length, IfOk, OnOk, string_bytes};
+ghost use Rattle.cbsrun_simulate.specs.Released.{distance};
 ghost use Rattle.cbsrun_text.specs.Columns.{plain, rows_of};
 ghost use Rattle.cbsrun_sizing.specs.Asked.{most_ticks};
 ghost use Rattle.cbsrun_check_text.specs.Cells.{cell_of};
-ghost use Rattle.cbsrun_check_text.specs.Tables.{optional_text, range_text, in_time_text, greatest_job, is_asking_too_much, source_row, row_of, sources_heading, sources_table, sources_text};
+ghost use Rattle.cbsrun_check_text.specs.Tables.{optional_text, range_text, every_text, in_time_text, greatest_job, is_asking_too_much, source_row, row_of, sources_heading, sources_table, sources_text};
 
 use crate::cells::Shown;
 use crate::fractions::Share;
@@ -26,6 +27,17 @@ fn range_shown(tick: Option<u64>, range: Range) -> Shown<'static>
         return Shown::Time(tick, least);
     }
     Shown::Range(tick, least, greatest)
+}
+
+/// Returns what a cell shows of the ticks from one job of a source to the next: with its jitter, if it has one.
+fn every_shown(tick: Option<u64>, terms: &SourceTerms) -> Shown<'static>
+    ensures { cell_of result ≡ plain (every_text tick terms.now) }
+{
+    if terms.jitter == 0 {
+        return range_shown(tick, terms.every);
+    }
+    let every = terms.every;
+    Shown::Jittered(tick, every.least(), every.greatest(), terms.jitter)
 }
 
 /// Returns what a cell shows of a number of ticks: it, or `-` if there is no number.
@@ -67,7 +79,7 @@ fn is_asking_too_much(rate: Reservation, terms: &SourceTerms) -> bool
     requires { greatest_job terms.now ≤ most_ticks }
     ensures { result ≡ is_asking_too_much rate terms.now }
 {
-    u128::from(rate.budget()) * u128::from(terms.every.least())
+    u128::from(rate.budget()) * u128::from(terms.distance())
         < u128::from(greatest_job(terms)) * u128::from(rate.period())
 }
 
@@ -98,18 +110,18 @@ fn source_row(
     promised: Result<u64, NotPromised>,
     terms: &SourceTerms,
 ) -> Result<Vec<Cell>, AllocError>
-    requires apart { 0 < terms.now.every.least }
+    requires apart { 0 < distance terms.now }
     requires short { greatest_job terms.now ≤ most_ticks }
     ensures { IfOk result (λ row. row.items ≡ source_row tick name.now rate promised terms.now) }
 {
-    let asked = Share::new(greatest_job(terms), terms.every.least());
+    let asked = Share::new(greatest_job(terms), terms.distance());
     let reserved = Share::new(rate.budget(), rate.period());
     cells(
         alloc,
         &[
             Shown::Word(name),
             range_shown(tick, terms.units),
-            range_shown(tick, terms.every),
+            every_shown(tick, terms),
             Shown::MarkedFraction(asked, is_asking_too_much(rate, terms)),
             Shown::Fraction(reserved),
             ticks_shown(tick, terms.within),
@@ -127,7 +139,7 @@ fn row_of(
 ) -> Result<Vec<Cell>, AllocError>
     requires counted { length loads.now ≡ length load.now.plan.rates }
     requires held { terms.now.server < length load.now.plan.rates }
-    requires apart { 0 < terms.now.every.least }
+    requires apart { 0 < distance terms.now }
     requires short { greatest_job terms.now ≤ most_ticks }
     ensures { IfOk result (λ row. row.items ≡ row_of load.now.tick load.now.names load.now.plan.rates loads.now
         terms.now) }

@@ -6,6 +6,8 @@ use Rattle.cbsrun_command_line.specs.declared.actions.Drawing.{Drawing}
 use Rattle.cbsrun_command_line.specs.declared.actions.Drawing.TheVariants.{Svg, Text, Trace}
 use Rattle.cbsrun_command_line.specs.declared.actions.Form.{Form}
 use Rattle.cbsrun_command_line.specs.declared.actions.Form.TheVariants.{Report, Json}
+use Rattle.cbsrun_command_line.specs.declared.actions.SweepForm.{SweepForm}
+use Rattle.cbsrun_command_line.specs.declared.actions.SweepForm.TheVariants as sweep
 use Rattle.cbsrun_command_line.specs.declared.actions.Verb.{Verb}
 use Rattle.cbsrun_command_line.specs.declared.actions.Verb.TheVariants.{Replay, Serve}
 
@@ -21,6 +23,7 @@ action_name (action.Size all) = codes "size"
 action_name (action.ReportLoad report) = codes "simulate"
 action_name (action.WriteLoadLines changes) = codes "simulate"
 action_name (action.WriteLoadJobs changes) = codes "simulate"
+action_name (action.SweepLoad sweep) = codes "simulate"
 action_name (action.DrawLoad drawing ticks changes) = codes "simulate"
 action_name (action.ReportTasks form) = codes "replay"
 action_name (action.DrawTasks drawing ticks) = codes "replay"
@@ -30,6 +33,12 @@ action_name (action.Run verb) = name_of verb
 abbrev pub form_name : Form → List ℕ
 form_name Report = codes "report"
 form_name Json = codes "json"
+
+-- the word of each form of many runs
+abbrev pub sweep_form_name : SweepForm → List ℕ
+sweep_form_name sweep.Report = codes "report"
+sweep_form_name sweep.Json = codes "json"
+sweep_form_name sweep.Csv = codes "csv"
 
 -- the word of each drawing
 abbrev pub drawing_name : Drawing → List ℕ

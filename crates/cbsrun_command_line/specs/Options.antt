@@ -1,14 +1,19 @@
 -- The options of a command, and what they ask for.
-use Rattle.std.specs.Prelude.{◌≡◌, ⊤, ℕ, Bool, false, ◌+◌, ◌<◌, ◌≤◌, ◌^◌, min, bytes_eq, codes, MatchOption, option_map, Option, Some, None}
+use Rattle.std.specs.Prelude.{◌≡◌, ⊤, ℕ, Bool, false, ◌+◌, ◌<◌, ◌≤◌, ◌^◌, eqb, ltb, length, min, bytes_eq, codes, if◌then◌else◌, MatchOption, option_map, List, [], ◌∷◌}
+use Rattle.std.specs.Prelude.{option_and_then, Option, Some, None}
+use Rattle.std.specs.List.{position_or_len, before_first, after_first}
 use Rattle.std.specs.Borrow.{Bor}
 use Rattle.std.specs.Str.Parse.{IsNumeral, digits_value, without_leading_plus}
+use Rattle.clap.specs.Lexer.{strip_byte}
 use Rattle.clap.specs.Words.{Text}
 use Rattle.cbsrun_window.specs.declared.window.Window.{Window}
-use Rattle.cbsrun_command_line.specs.Actions.{action_name, drawing_name, form_name}
+use Rattle.cbsrun_command_line.specs.Actions.{action_name, drawing_name, form_name, sweep_form_name}
 use Rattle.cbsrun_command_line.specs.declared.actions.Action.{Action}
 use Rattle.cbsrun_command_line.specs.declared.actions.Action.TheVariants as action
 use Rattle.cbsrun_command_line.specs.declared.actions.Changes.{Changes}
 use Rattle.cbsrun_command_line.specs.declared.actions.Form.TheVariants.{Report}
+use Rattle.cbsrun_command_line.specs.declared.actions.Seeds.{Seeds}
+use Rattle.cbsrun_command_line.specs.declared.actions.SweepForm.TheVariants.{Report as ManyReport}
 use Rattle.cbsrun_command_line.specs.declared.actions.Verb.TheVariants.{Replay, Serve}
 use Rattle.cbsrun_command_line.specs.declared.options.Options.{Options}
 
@@ -17,7 +22,7 @@ abbrev pub Finds : {A : Type 0} → Option A → (A → Type 0) → Type 0
 Finds {A} found Is = MatchOption found ((x : A) → ¬ (Is x)) Is
 
 -- the texts of the options that are given: the form of the output, the first tick to show, and the tick after the last
--- one; the seed, and the tick at which a simulation ends; whether the status is to tell the answer; whether each server
+-- one; the seed, and the tick at which a simulation ends; the seeds of many runs; whether the status is to tell the answer; whether each server
 -- is to get a reservation
 pub record Said : Type 0 where
   pub form : Option Text
@@ -25,6 +30,7 @@ pub record Said : Type 0 where
   pub to : Option Text
   pub seed : Option Text
   pub until : Option Text
+  pub seeds : Option Text
   pub strict : Option Text
   pub all : Option Text
 
@@ -40,6 +46,7 @@ said o = record {
   to = text_of o.to;
   seed = text_of o.seed;
   until = text_of o.until;
+  seeds = text_of o.seeds;
   strict = text_of o.strict;
   all = text_of o.all;
 }
@@ -77,6 +84,30 @@ IsNumber least greatest (Some text) (Some n) = Spells text n × (least ≤ n) ×
 abbrev pub AsksChanges : Option Text → Option Text → Changes → Type 0
 AsksChanges seed until c = IsNumber 0 9223372036854775807 seed c.seed × IsNumber 1 1000000000000 until c.until
 
+-- what stands before the first dot of a text, and what stands after it, if there is one
+abbrev pub around_dot : Text → Option (Text × Text)
+around_dot text =
+    if ltb (position_or_len (λ b. eqb b 46) text) (length text)
+    then Some (before_first (λ b. eqb b 46) text, after_first (λ b. eqb b 46) text)
+    else None
+
+-- what stands after the dot that a text begins with
+abbrev pub after_dot : Text → Option Text
+after_dot text = strip_byte 46 text
+
+-- the two texts of A..B
+abbrev pub seeds_in : Text → Option (Text × Text)
+seeds_in text = option_and_then (λ two. option_map (λ last. (two.0, last)) (after_dot two.1)) (around_dot text)
+
+-- the seeds from the first text to the last one, at most 10^6
+abbrev pub AreSeeds : Text → Text → Seeds → Type 0
+AreSeeds first last s =
+    Spells first s.first × Spells last s.last × (s.first ≤ s.last) × (s.last ≤ 9223372036854775807) × (s.last < s.first + 1000000)
+
+-- the seeds that a text asks for
+abbrev pub AsksSeeds : Text → Seeds → Type 0
+AsksSeeds text s = MatchOption (seeds_in text) ⊥ (λ two. AreSeeds two.0 two.1 s)
+
 -- Which form without ticks an action has. For check and simulate that is a report, as text if no form is named; for
 -- simulate also the lines or the jobs, by their names. For replay that is the lines, by their name or if no form is named, or a report by its name.
 abbrev pub AsksPlain : Option Text → Action → Type 0
@@ -84,6 +115,7 @@ AsksPlain name (action.Check form strict) = MatchOption name (form ≡ Report) (
 AsksPlain name (action.ReportLoad report) = MatchOption name (report.form ≡ Report) (λ n. n ≡ form_name report.form)
 AsksPlain name (action.WriteLoadLines changes) = MatchOption name ⊥ (λ n. n ≡ codes "lines")
 AsksPlain name (action.WriteLoadJobs changes) = MatchOption name ⊥ (λ n. n ≡ codes "csv")
+AsksPlain name (action.SweepLoad sweep) = MatchOption name (sweep.form ≡ ManyReport) (λ n. n ≡ sweep_form_name sweep.form)
 AsksPlain name (action.ReportTasks form) = MatchOption name ⊥ (λ n. n ≡ form_name form)
 AsksPlain name (action.Run Replay) = MatchOption name ⊤ (λ n. n ≡ codes "lines")
 AsksPlain name _ = ⊥
@@ -93,10 +125,12 @@ AsksPlain name _ = ⊥
 abbrev pub AsksRest : Said → Action → Type 0
 AsksRest s (action.Check form strict) = strict ≡ is_given s.strict
 AsksRest s (action.Size all) = all ≡ is_given s.all
-AsksRest s (action.ReportLoad report) = AsksChanges s.seed s.until report.changes × (report.strict ≡ is_given s.strict)
-AsksRest s (action.WriteLoadLines changes) = AsksChanges s.seed s.until changes × (is_given s.strict ≡ false)
-AsksRest s (action.WriteLoadJobs changes) = AsksChanges s.seed s.until changes × (is_given s.strict ≡ false)
-AsksRest s (action.DrawLoad drawing ticks changes) = AsksChanges s.seed s.until changes × (is_given s.strict ≡ false)
+AsksRest s (action.ReportLoad report) = AsksChanges s.seed s.until report.changes × (report.strict ≡ is_given s.strict) × (s.seeds ≡ None)
+AsksRest s (action.WriteLoadLines changes) = AsksChanges s.seed s.until changes × (is_given s.strict ≡ false) × (s.seeds ≡ None)
+AsksRest s (action.WriteLoadJobs changes) = AsksChanges s.seed s.until changes × (is_given s.strict ≡ false) × (s.seeds ≡ None)
+AsksRest s (action.SweepLoad sweep) = MatchOption s.seeds ⊥ (λ text. AsksSeeds text sweep.seeds) × (s.seed ≡ None)
+    × AsksChanges s.seed s.until sweep.changes × (sweep.strict ≡ is_given s.strict)
+AsksRest s (action.DrawLoad drawing ticks changes) = AsksChanges s.seed s.until changes × (is_given s.strict ≡ false) × (s.seeds ≡ None)
 AsksRest s _ = ⊤
 
 -- The form that the options ask for. A drawing has ticks, and the other forms have none. Size and serve have one form

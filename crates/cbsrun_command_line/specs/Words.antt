@@ -57,7 +57,7 @@ sizing = with_flag (on_file (codes "size")) (codes "all")
 abbrev pub simulating : App
 simulating =
     let seeded = with_option (in_a_form (codes "simulate")) (codes "seed") in
-    with_flag (with_option seeded (codes "until")) (codes "strict")
+    with_flag (with_option (with_option seeded (codes "until")) (codes "seeds")) (codes "strict")
 
 -- the program with one more verb
 abbrev pub with_verb : App → App → App
@@ -77,6 +77,7 @@ said_in rows = record {
   to = first_of (codes "to") rows;
   seed = first_of (codes "seed") rows;
   until = first_of (codes "until") rows;
+  seeds = first_of (codes "seeds") rows;
   strict = first_of (codes "strict") rows;
   all = first_of (codes "all") rows;
 }

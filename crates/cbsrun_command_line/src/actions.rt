@@ -52,6 +52,44 @@ pub struct Changes {
     ghost few: { unwrap_or until 1 ≤ 1000000000000 },
 }
 
+/// The most runs of a load, with one seed after another.
+pub const MOST_RUNS: u64 = 1_000_000;
+
+/// The seeds of many runs of a load, from the first to the last: at most [`MOST_RUNS`].
+#[derive(Clone, Copy, Debug, PartialEq, Eq)]
+pub struct Seeds {
+    /// The first seed.
+    pub first: u64,
+    /// The last seed: at most [`MOST_SEED`].
+    pub last: u64,
+    ghost ordered: { first ≤ last },
+    ghost within: { last ≤ 9223372036854775807 },
+}
+
+/// The form in which it is written what many runs tell.
+#[derive(Clone, Copy, Debug, PartialEq, Eq)]
+pub enum SweepForm {
+    /// Text, for people.
+    Report,
+    /// JSON, for programs.
+    Json,
+    /// CSV, for notebooks.
+    Csv,
+}
+
+/// Many runs of a load that a command line asks for.
+#[derive(Clone, Copy, Debug, PartialEq, Eq)]
+pub struct LoadSweep {
+    /// The form of what is told.
+    pub form: SweepForm,
+    /// The seeds of the runs.
+    pub seeds: Seeds,
+    /// What takes the place of the end that the load says. There is no seed.
+    pub changes: Changes,
+    /// Whether the status is 1 if a job of a run is late or was refused.
+    pub strict: bool,
+}
+
 /// The report of a load that a command line asks for.
 #[derive(Clone, Copy, Debug, PartialEq, Eq)]
 pub struct LoadReport {
@@ -84,6 +122,8 @@ pub enum Action {
     WriteLoadLines(Changes),
     /// The simulation of a load with these changes, with a line of CSV for each job.
     WriteLoadJobs(Changes),
+    /// Many simulations of a load, with one seed after another.
+    SweepLoad(LoadSweep),
     /// The simulation of a load with these changes, with a drawing of these ticks.
     DrawLoad(Drawing, Window, Changes),
     /// The replay of a task file, with a report in this form.

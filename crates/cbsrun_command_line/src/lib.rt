@@ -7,7 +7,10 @@ mod options;
 mod texts;
 mod words;
 
-pub use actions::{Action, Asked, Changes, Drawing, Form, LAST_END, LoadReport, MOST_SEED, Verb};
+pub use actions::{
+    Action, Asked, Changes, Drawing, Form, LAST_END, LoadReport, LoadSweep, MOST_RUNS, MOST_SEED,
+    Seeds, SweepForm, Verb,
+};
 pub use cbsrun_window::Window;
 pub use fault::WordsFault;
 pub use words::read_words;

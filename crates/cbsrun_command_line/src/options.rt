@@ -1,11 +1,14 @@
 //! The options of a command, and what they ask for.
 
-ghost use Rattle.std.specs.Prelude.{◌≡◌, codes, IfOk, Some};
-ghost use Rattle.cbsrun_command_line.specs.Actions.{drawing_name, form_name};
+ghost use Rattle.std.specs.Prelude.{◌≡◌, codes, option_map, IfOk, None, Some};
+ghost use Rattle.cbsrun_command_line.specs.Actions.{drawing_name, form_name, sweep_form_name};
 ghost use Rattle.cbsrun_command_line.specs.Faults.{words_fault_number};
-ghost use Rattle.cbsrun_command_line.specs.Options.{AsksChanges, AsksFor, AsksPlainly, AsksTicks, Finds, IsNumber, IsTick, is_given, said, text_of};
+ghost use Rattle.cbsrun_command_line.specs.Options.{AsksChanges, AsksFor, AsksPlainly, AsksSeeds, AsksTicks, Finds, after_dot, around_dot, IsNumber, IsTick, is_given, said, seeds_in, text_of};
 
-use crate::actions::{Action, Changes, Drawing, Form, LAST_END, LoadReport, MOST_SEED, Verb};
+use crate::actions::{
+    Action, Changes, Drawing, Form, LAST_END, LoadReport, LoadSweep, MOST_RUNS, MOST_SEED, Seeds,
+    SweepForm, Verb,
+};
 use crate::fault::WordsFault;
 use cbsrun_window::{MOST_TICKS, Window, WindowError};
 use std::alloc::{AllocError, Global};
@@ -25,6 +28,8 @@ pub(crate) struct Options<'a> {
     pub seed: Option<&'a str>,
     /// The tick at which the simulation of a load ends.
     pub until: Option<&'a str>,
+    /// The seeds of many runs of a load.
+    pub seeds: Option<&'a str>,
     /// Whether the status is to tell the answer: `true` if so.
     pub strict: Option<&'a str>,
     /// Whether each server is to get a reservation: `true` if so.
@@ -76,6 +81,43 @@ fn changes_of(seed: Option<&str>, until: Option<&str>) -> Option<Changes>
     Some(Changes { seed, until })
 }
 
+/// Returns what stands before the first dot of a text, and what stands after it, or `None` if it has none.
+fn around_dot(text: &str) -> Option<(&str, &str)>
+    ensures { option_map (λ two. (two.0.now, two.1.now)) result ≡ around_dot text.now }
+{
+    text.split_once('.')
+}
+
+/// Returns what stands after the dot that a text begins with, or `None` if it begins with none.
+fn after_dot(text: &str) -> Option<&str>
+    ensures { option_map (λ rest. rest.now) result ≡ after_dot text.now }
+{
+    text.strip_prefix('.')
+}
+
+/// Returns the two texts of `A..B`, or `None` if a text is none such.
+fn seeds_in(text: &str) -> Option<(&str, &str)>
+    ensures { option_map (λ two. (two.0.now, two.1.now)) result ≡ seeds_in text.now }
+{
+    let (first, rest) = around_dot(text)?;
+    let last = after_dot(rest)?;
+    Some((first, last))
+}
+
+/// Returns the seeds that a text asks for, as `1..1000`. Returns `None` if it asks for none, or for more than
+/// [`MOST_RUNS`].
+fn seeds_of(text: &str) -> Option<Seeds>
+    ensures { Finds result (AsksSeeds text.now) }
+{
+    let (first, last) = seeds_in(text)?;
+    let first = first.parse::<u64>().ok()?;
+    let last = last.parse::<u64>().ok()?;
+    if last > MOST_SEED || last < first || last - first >= MOST_RUNS {
+        return None;
+    }
+    Some(Seeds { first, last })
+}
+
 /// Returns whether an option without a value is given.
 fn is_given(said: Option<&str>) -> bool
     ensures { result ≡ is_given (text_of said.entry) }
@@ -97,6 +139,18 @@ fn form_of(name: &str) -> Option<Form>
     }
 }
 
+/// Returns the form of what many runs tell with this name, or `None` if there is none.
+fn sweep_form_of(name: &str) -> Option<SweepForm>
+    ensures { Finds result (λ form. name.now ≡ sweep_form_name form) }
+{
+    match name {
+        "report" => Some(SweepForm::Report),
+        "json" => Some(SweepForm::Json),
+        "csv" => Some(SweepForm::Csv),
+        _ => None,
+    }
+}
+
 /// Returns the drawing with this name, or `None` if there is none.
 fn drawing_of(form: Option<&str>) -> Option<Drawing>
     ensures { Finds result (λ drawing. text_of form.entry ≡ Some (drawing_name drawing)) }
@@ -113,6 +167,7 @@ fn drawing_of(form: Option<&str>) -> Option<Drawing>
 /// as text. Returns `None` if no such form has this name, if a number is out of its range, or if the lines or the jobs are
 /// to be strict.
 fn simulated_as(options: Options<'_>) -> Option<Action>
+    requires { text_of options.seeds ≡ None }
     ensures { Finds result (AsksPlainly (codes "simulate") (said options.entry)) }
 {
     let changes = changes_of(options.seed, options.until)?;
@@ -145,7 +200,8 @@ fn replayed_as(options: Options<'_>) -> Option<Action>
 /// Returns the drawing of a load that these options ask for. Returns `None` if they ask for no ticks, if a number is out
 /// of its range, or if the drawing is to be strict.
 fn drawn_load(drawing: Drawing, options: Options<'_>) -> Option<Action>
-    requires { text_of options.form ≡ Some (drawing_name drawing) }
+    requires form { text_of options.form ≡ Some (drawing_name drawing) }
+    requires once { text_of options.seeds ≡ None }
     ensures { Finds result (AsksFor (codes "simulate") (said options.entry)) }
 {
     let changes = changes_of(options.seed, options.until)?;
@@ -156,8 +212,9 @@ fn drawn_load(drawing: Drawing, options: Options<'_>) -> Option<Action>
     Some(Action::DrawLoad(drawing, ticks, changes))
 }
 
-/// Returns the action of `simulate` with these options, or `None` if they ask for none.
-fn simulated_with(options: Options<'_>) -> Option<Action>
+/// Returns the action of `simulate` with these options for one run. Returns `None` if they ask for none.
+fn simulated_once(options: Options<'_>) -> Option<Action>
+    requires { text_of options.seeds ≡ None }
     ensures { Finds result (AsksFor (codes "simulate") (said options.entry)) }
 {
     if let Some(drawing) = drawing_of(options.form) {
@@ -167,6 +224,40 @@ fn simulated_with(options: Options<'_>) -> Option<Action>
         return None;
     }
     simulated_as(options)
+}
+
+/// Returns the action of `simulate` with these options for many runs, with these seeds. Without a form, this is the text.
+/// Returns `None` if no such form has this name, if a number is out of its range, or if one seed is given, too, or ticks to
+/// show.
+fn swept_as(options: Options<'_>, seeds: &str) -> Option<Action>
+    requires { text_of options.seeds ≡ Some seeds.now }
+    ensures { Finds result (AsksFor (codes "simulate") (said options.entry)) }
+{
+    if options.seed.is_some() || options.from.is_some() || options.to.is_some() {
+        return None;
+    }
+    let seeds = seeds_of(seeds)?;
+    let changes = changes_of(options.seed, options.until)?;
+    let form = match options.form {
+        None => SweepForm::Report,
+        Some(name) => sweep_form_of(name)?,
+    };
+    Some(Action::SweepLoad(LoadSweep {
+        form,
+        seeds,
+        changes,
+        strict: is_given(options.strict),
+    }))
+}
+
+/// Returns the action of `simulate` with these options, or `None` if they ask for none.
+fn simulated_with(options: Options<'_>) -> Option<Action>
+    ensures { Finds result (AsksFor (codes "simulate") (said options.entry)) }
+{
+    match options.seeds {
+        Some(seeds) => swept_as(options, seeds),
+        None => simulated_once(options),
+    }
 }
 
 /// Returns the action of `replay` with these options, or `None` if they ask for none.
@@ -310,6 +401,31 @@ fn append_wrong_form(
     )
 }
 
+/// Appends why options ask for no many runs.
+fn append_wrong_sweep(
+    text: &mut String,
+    seeds: &str,
+    options: Options<'_>,
+) -> Result<(), AllocError> {
+    if seeds_of(seeds).is_none() {
+        writeln!(
+            text,
+            "error: invalid value '{seeds}' for '--seeds <FIRST..LAST>'"
+        )?;
+        return writeln!(
+            text,
+            "  [two whole numbers from 0 to {MOST_SEED} are wanted, as 1..1000, and at most {MOST_RUNS} seeds]"
+        );
+    }
+    if number_of(options.until, 1, LAST_END).is_none() {
+        return append_no_number(text, "--until <TICK>", options.until, 1, LAST_END);
+    }
+    writeln!(
+        text,
+        "error: --seeds goes with '--as report', '--as json', '--as csv', --until and --strict alone"
+    )
+}
+
 /// Returns the fault of a command line whose options ask for no action.
 pub(crate) fn wrong_options(
     alloc: Global,
@@ -319,7 +435,9 @@ pub(crate) fn wrong_options(
     ensures { IfOk result (λ w. words_fault_number w ≡ 1) }
 {
     let mut text = String::new(alloc);
-    if number_of(options.seed, 0, MOST_SEED).is_none() {
+    if let Some(seeds) = options.seeds {
+        append_wrong_sweep(&mut text, seeds, options)?;
+    } else if number_of(options.seed, 0, MOST_SEED).is_none() {
         append_no_number(&mut text, "--seed <SEED>", options.seed, 0, MOST_SEED)?;
     } else if number_of(options.until, 1, LAST_END).is_none() {
         append_no_number(&mut text, "--until <TICK>", options.until, 1, LAST_END)?;

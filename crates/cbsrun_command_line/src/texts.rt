@@ -127,6 +127,10 @@ or as many]";
 pub(crate) const SEED: &str =
     "The seed of the numbers that are drawn, in place of the load's own: 0 to 2^63 - 1";
 
+pub(crate) const SEEDS: &str =
+    "Many simulations, one with each of these seeds, as 1..1000: at most 10^6; what they tell of each \
+server is written as report, json or csv";
+
 pub(crate) const UNTIL: &str =
     "The tick at which the simulation ends, in place of the load's own: 1 to 10^12";
 

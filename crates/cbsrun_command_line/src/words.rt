@@ -11,8 +11,8 @@ use crate::actions::Asked;
 use crate::fault::WordsFault;
 use crate::options::{Options, action_of, wrong_options};
 use crate::texts::{
-    ABOUT, ALL, CHECK, CHECKS, FILES, FROM, GUIDE, IN_TIME, PROMISED, REPLAY, REPORTS, SEED, SERVE,
-    SIMULATE, SIZE, TO, TRACES, UNTIL, VERSION,
+    ABOUT, ALL, CHECK, CHECKS, FILES, FROM, GUIDE, IN_TIME, PROMISED, REPLAY, REPORTS, SEED, SEEDS,
+    SERVE, SIMULATE, SIZE, TO, TRACES, UNTIL, VERSION,
 };
 use clap::error::ErrorKind;
 use clap::{Arg, ArgAction, ArgMatches, Command, Error};
@@ -103,6 +103,7 @@ fn simulating<'a>(alloc: Global) -> Result<Command<'a>, AllocError>
     let verb = in_a_form(alloc, "simulate", SIMULATE, REPORTS)?;
     let verb = with_option(alloc, verb, "seed", "SEED", SEED)?;
     let verb = with_option(alloc, verb, "until", "TICK", UNTIL)?;
+    let verb = with_option(alloc, verb, "seeds", "FIRST..LAST", SEEDS)?;
     with_flag(alloc, verb, "strict", IN_TIME)
 }
 
@@ -192,6 +193,7 @@ fn asked_in(alloc: Global, matches: &ArgMatches) -> Result<Asked, WordsFault>
     let to = inner.get_str("to");
     let seed = inner.get_str("seed");
     let until = inner.get_str("until");
+    let seeds = inner.get_str("seeds");
     let strict = inner.get_str("strict");
     let all = inner.get_str("all");
     let options = Options {
@@ -200,6 +202,7 @@ fn asked_in(alloc: Global, matches: &ArgMatches) -> Result<Asked, WordsFault>
         to,
         seed,
         until,
+        seeds,
         strict,
         all,
     };

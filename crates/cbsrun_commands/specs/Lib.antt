@@ -3,6 +3,7 @@ pub mod Environment
 pub mod FaultLines
 pub mod Outputs
 pub mod ResultLines
+pub mod Sweeps
 pub mod Verbs
 -- what the clauses name of the libraries below
 pub use Rattle.cbs_clients.specs.Houses

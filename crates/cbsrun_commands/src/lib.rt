@@ -16,9 +16,11 @@ mod result_lines;
 mod run;
 mod serve;
 mod size;
+mod sweeps;
 
 pub use cbsrun_command_line::{
-    Action, Asked, Changes, Drawing, Form, LoadReport, Verb, Window, WordsFault, read_words,
+    Action, Asked, Changes, Drawing, Form, LoadReport, LoadSweep, Seeds, SweepForm, Verb, Window,
+    WordsFault, read_words,
 };
 pub use cbsrun_io::{
     ByteInput, ByteOutput, FromRead, MAX_BYTES, ReadError, ToWrite, read_all, write_pieces,
@@ -37,3 +39,4 @@ pub use report::{report_bytes_within, simulate_bytes_within};
 pub use run::{run_bytes, run_bytes_within};
 pub use serve::serve_file;
 pub use size::size_bytes_within;
+pub use sweeps::sweep_bytes_within;

@@ -34,8 +34,8 @@ ticks_to came (Some finish) = Some (finish - came)
 abbrev pub response_of : CsvJob → Option ℕ
 response_of job = ticks_to job.came job.finish
 
--- a job is late, by how many ticks after its arrival it ended, if it ended, and by how many ticks ago it came: it took
--- more ticks than wanted, or is unfinished and has taken as many already
+-- a job is late. `response` is how many ticks it took, if it ended, and `age` how many ticks ago it came. A finished job
+-- is late if it took more than `within`; an unfinished one, if it came at least so long ago
 abbrev pub is_late_after : Option ℕ → ℕ → Option ℕ → Bool
 is_late_after None age within = uses age within
 is_late_after (Some response) age within = exceeds response within

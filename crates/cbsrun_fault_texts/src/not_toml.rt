@@ -99,7 +99,7 @@ fn append_remedy(page: &mut Page, margin: usize, wrong: Wrong<'_>)
         Wrong::NoNumber | Wrong::AfterNumber => append_help(
             page,
             margin,
-            "a time is a whole number of ticks, as 5, or a range, as [4, 12]",
+            "write ticks as 5 or [4, 12], and a time in quotes, as \"5 ms\"",
         ),
         Wrong::TableTwice(name) => append_brackets_help(page, margin, name),
         _ => {}

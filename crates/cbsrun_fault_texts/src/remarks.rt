@@ -49,10 +49,15 @@ fn append_range(page: &mut Page, key: Key, value: &Value, spot: &Spot<'_>) {
     }
 }
 
-/// Appends in short what is wrong with a time.
-fn append_short_time(page: &mut Page, bad: BadTime) {
+/// Appends in short what is wrong with a time at a key.
+fn append_short_time(page: &mut Page, key: Key, bad: BadTime) {
     match bad {
-        BadTime::NoTime => page.push("a number, a space, and a unit: s, ms, us or ns"),
+        BadTime::NoTime if key.rounding() == Some(Rounding::Up) => {
+            page.push("a number, a space, and a unit: s, ms, us or ns")
+        }
+        BadTime::NoTime => page.push("a number, a space, and a unit: s, ms, us, ns, Hz or kHz"),
+        BadTime::Frequency => page.push("no frequency: s, ms, us or ns"),
+        BadTime::TooLong => page.push("more than 10^12 ticks"),
         BadTime::NotWhole(ticks) => {
             page.push_number("between ", ticks);
             page.push_number(" and ", ticks.saturating_add(1));
@@ -68,11 +73,12 @@ fn append_short_time(page: &mut Page, bad: BadTime) {
 /// Appends in short what a value may be.
 fn append_short(page: &mut Page, key: Key, value: &Value, spot: &Spot<'_>) {
     if let Some(bad) = bad_time(spot.document.tick, key, value) {
-        return append_short_time(page, bad);
+        return append_short_time(page, key, bad);
     }
     match key.want {
         Want::Number(least, greatest) => append_span(page, least, greatest),
         Want::Budget => append_span(page, 1, spot.period().unwrap_or(1)),
+        Want::Jitter => append_span(page, 0, spot.most_jitter().unwrap_or(0)),
         Want::Range(_, _) => append_range(page, key, value, spot),
         Want::ServerName => page.push("no server has this name"),
         Want::Server => match spot.document.servers.len() {
@@ -111,7 +117,7 @@ pub(crate) fn append_outside_line(
 fn wants_number(want: Want) -> bool {
     matches!(
         want,
-        Want::Number(_, _) | Want::Budget | Want::Server | Want::Range(_, _)
+        Want::Number(_, _) | Want::Budget | Want::Jitter | Want::Server | Want::Range(_, _)
     )
 }
 

@@ -3,7 +3,7 @@
 use crate::page::Page;
 use crate::shown::{append_shown, type_phrase};
 use cbsrun_faults::{Key, MAX_NUMBER, Spot, Want, first_bad_unit, two_numbers};
-use cbsrun_times::{Rounding, ticks_of};
+use cbsrun_times::{LONGEST_TICK, Rounding, ticks_of};
 use toml::Value;
 
 /// Returns whether a key may have times in a file, since it has ticks and the file says how long one is.
@@ -14,13 +14,15 @@ pub(crate) fn may_be_time(key: Key, spot: &Spot<'_>) -> bool {
 /// Appends which type a value must have.
 pub(crate) fn append_type(page: &mut Page, key: Key, spot: &Spot<'_>) {
     match key.want {
-        Want::Number(_, _) | Want::Budget if may_be_time(key, spot) => {
+        Want::Number(_, _) | Want::Budget | Want::Jitter if may_be_time(key, spot) => {
             page.push("a time or a whole number of ticks")
         }
         Want::Range(_, _) if may_be_time(key, spot) => {
             page.push("a time, a whole number of ticks, or [least, greatest]")
         }
-        Want::Number(_, _) | Want::Budget | Want::Server => page.push("a whole number"),
+        Want::Number(_, _) | Want::Budget | Want::Jitter | Want::Server => {
+            page.push("a whole number")
+        }
         Want::Range(_, _) => page.push("a whole number or [least, greatest]"),
         Want::Word(words) => page.push_list(words.list(), "\"", " or "),
         Want::Name => page.push("a text"),
@@ -50,6 +52,17 @@ fn append_numbers(page: &mut Page, least: u64, greatest: u64) {
     }
 }
 
+/// Appends which numbers a jitter may be. `most` is the greatest, if it is known.
+fn append_jitters(page: &mut Page, most: Option<u64>) {
+    match most {
+        Some(most) => {
+            append_numbers(page, 0, most);
+            page.push(", less than the least `every`");
+        }
+        None => page.push("a number less than the least `every`"),
+    }
+}
+
 /// Appends what a value may be.
 pub(crate) fn append_allowed(page: &mut Page, want: Want, spot: &Spot<'_>) {
     match want {
@@ -58,6 +71,7 @@ pub(crate) fn append_allowed(page: &mut Page, want: Want, spot: &Spot<'_>) {
             Some(period) => page.push_number("a number from 1 to the period, ", period),
             None => page.push("a number from 1 to the period"),
         },
+        Want::Jitter => append_jitters(page, spot.most_jitter()),
         Want::Range(least, greatest) => append_from(
             page,
             "a number or [least, greatest], from ",
@@ -73,7 +87,7 @@ pub(crate) fn append_allowed(page: &mut Page, want: Want, spot: &Spot<'_>) {
         }
         Want::Units => page.push_number("1 to 1000000 numbers from 0 to ", MAX_NUMBER),
         Want::Server | Want::ServerName => page.push("a server"),
-        Want::Tick => page.push("a time from \"1 ns\" to \"1 s\""),
+        Want::Tick => page.push("a time of whole nanoseconds, from \"1 ns\" to \"1 s\""),
     }
 }
 
@@ -104,9 +118,21 @@ fn append_plain(page: &mut Page, key: Key, value: &Value, spot: &Spot<'_>) {
     append_allowed(page, key.want, spot);
 }
 
+/// Appends which entry of an array is no number of ticks.
+fn append_bad_entry(page: &mut Page, key: Key, place: usize, entry: &Value, bad: BadTime) {
+    page.push_number("number ", place as u64);
+    page.push_all(&[" of `", key.name, "` is "]);
+    append_shown(page, entry);
+    page.push(", and ");
+    append_time_wanted(page, key, bad);
+}
+
 /// Appends what is wrong with a range.
 fn append_range(page: &mut Page, key: Key, value: &Value, spot: &Spot<'_>) {
     let name = key.name;
+    if let Some((place, entry, bad)) = bad_entry(spot.document.tick, key, value) {
+        return append_bad_entry(page, key, place, entry, bad);
+    }
     match two_numbers(spot.document.tick, key, value) {
         Ok((least, greatest)) if greatest < least => write!(
             page,
@@ -136,10 +162,29 @@ fn append_units(page: &mut Page, name: &str, units: &[Value]) {
 pub(crate) enum BadTime {
     /// It is no time.
     NoTime,
+    /// It is a frequency, and what it would be is rounded up: work, a budget or the end.
+    Frequency,
+    /// It is more ticks than a time may be.
+    TooLong,
     /// It is between this number of ticks and the next.
     NotWhole(u64),
     /// It is this number of ticks.
     OutOfRange(u64),
+}
+
+/// Returns why a text is not a number of ticks of this length, if it has to be rounded so. No time is too long for the longest
+/// tick.
+fn why_no_ticks(tick: u64, rounding: Rounding, text: &str) -> BadTime {
+    if ticks_of(LONGEST_TICK, Rounding::Down, text).is_none() {
+        return BadTime::NoTime;
+    }
+    if rounding == Rounding::Up && ticks_of(LONGEST_TICK, rounding, text).is_none() {
+        return BadTime::Frequency;
+    }
+    match ticks_of(tick, Rounding::Down, text) {
+        Some(ticks) if rounding == Rounding::Whole => BadTime::NotWhole(ticks),
+        _ => BadTime::TooLong,
+    }
 }
 
 /// Returns what is wrong with a text at a key that may have a time, in a file with this tick, or `None` if the value is
@@ -147,12 +192,37 @@ pub(crate) enum BadTime {
 pub(crate) fn bad_time(tick: Option<u64>, key: Key, value: &Value) -> Option<BadTime> {
     let text = value.as_str()?;
     let tick = tick?;
-    if let Some(ticks) = ticks_of(tick, key.rounding()?, text) {
-        return Some(BadTime::OutOfRange(ticks));
+    let rounding = key.rounding()?;
+    match ticks_of(tick, rounding, text) {
+        Some(ticks) => Some(BadTime::OutOfRange(ticks)),
+        None => Some(why_no_ticks(tick, rounding, text)),
     }
-    match ticks_of(tick, Rounding::Down, text) {
-        Some(ticks) if key.rounding() == Some(Rounding::Whole) => Some(BadTime::NotWhole(ticks)),
-        _ => Some(BadTime::NoTime),
+}
+
+/// Returns the place of the first entry of an array, from 1, that is a text and no number of ticks, with what is wrong with it,
+/// or `None` if there is none.
+fn bad_entry<'a>(
+    tick: Option<u64>,
+    key: Key,
+    value: &'a Value,
+) -> Option<(usize, &'a Value, BadTime)> {
+    let entries = value.as_array()?;
+    for (place, entry) in entries.iter().enumerate() {
+        match bad_time(tick, key, entry) {
+            Some(BadTime::OutOfRange(_)) | None => {}
+            Some(bad) => return Some((place + 1, entry, bad)),
+        }
+    }
+    None
+}
+
+/// Appends what a text that is no number of ticks has to be.
+fn append_time_wanted(page: &mut Page, key: Key, bad: BadTime) {
+    match bad {
+        BadTime::NotWhole(_) => page.push("has to be a whole number of ticks"),
+        BadTime::TooLong => page.push("has to be at most 10^12 ticks"),
+        _ if key.rounding() == Some(Rounding::Up) => { page.push("has to be a time, as \"8 ms\"") }
+        _ => page.push("has to be a time, as \"33.3 ms\" or \"30 Hz\""),
     }
 }
 
@@ -160,16 +230,12 @@ pub(crate) fn bad_time(tick: Option<u64>, key: Key, value: &Value) -> Option<Bad
 fn append_bad_time(page: &mut Page, key: Key, value: &Value, bad: BadTime, spot: &Spot<'_>) {
     append_is(page, key.name, value);
     match bad {
-        BadTime::NoTime if key.rounding() == Some(Rounding::Up) => {
-            page.push("has to be a time, as \"8 ms\"")
-        }
-        BadTime::NoTime => page.push("has to be a time, as \"33.3 ms\" or \"30 Hz\""),
-        BadTime::NotWhole(_) => page.push("has to be a whole number of ticks"),
         BadTime::OutOfRange(ticks) => {
             page.push_number("that is ", ticks);
             page.push(" ticks; it has to be ");
             append_allowed(page, key.want, spot);
         }
+        _ => append_time_wanted(page, key, bad),
     }
 }
 

@@ -45,6 +45,8 @@ pub enum Want {
     Number(u64, u64),
     /// A number from 1 to the period of the same table.
     Budget,
+    /// A number that is less than the least `every` of the same table.
+    Jitter,
     /// The number of a server.
     Server,
     /// A number, or a least and a greatest one, from the first number to the second.
@@ -79,7 +81,7 @@ impl Key {
     pub fn rounding(self) -> Option<Rounding> {
         match self.name {
             "units" if matches!(self.want, Want::Units) => None,
-            "units" | "overrun" | "budget" | "until" => Some(Rounding::Up),
+            "units" | "overrun" | "jitter" | "budget" | "until" => Some(Rounding::Up),
             "first" | "every" | "within" => Some(Rounding::Down),
             "period" => Some(Rounding::Whole),
             _ => None,
@@ -160,7 +162,10 @@ static NAMED_SERVER: [Key; 4] = [
     key!("period", Want::Number(1, MAX_PERIOD)),
 ];
 
-static SOURCE: [Key; 7] = [
+/// The ticks between the jobs of a source.
+pub(crate) static EVERY: Key = key!("every", Want::Range(1, LIMIT));
+
+static SOURCE: [Key; 8] = [
     key!("server", Want::ServerName),
     optional_key!("first", Want::Number(0, LIMIT)),
     key!("every", Want::Range(1, LIMIT)),
@@ -168,6 +173,7 @@ static SOURCE: [Key; 7] = [
     optional_key!("jobs", Want::Number(1, LIMIT)),
     optional_key!("within", Want::Number(1, LIMIT)),
     optional_key!("overrun", Want::Range(0, MAX_PERIOD)),
+    optional_key!("jitter", Want::Jitter),
 ];
 
 static STEP: [Key; 1] = [key!("op", Want::Word(Words::Steps))];

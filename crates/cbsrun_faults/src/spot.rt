@@ -8,7 +8,7 @@ ghost use Rattle.cbsrun_faults.specs.Spots.{label_text, label_of, named_label, F
 
 use crate::document::{Document, Kind, entries, name_of, server_named, text_at};
 use crate::keys::Subject;
-use crate::wants::period_of;
+use crate::wants::{most_jitter_of, period_of};
 use cbsrun_toml_tables::Place;
 use std::alloc::{AllocError, Global};
 use std::fmt;
@@ -69,6 +69,12 @@ impl Spot<'_> {
     /// Returns the period of the table, or `None` if there is no table or it has no period.
     pub fn period(&self) -> Option<u64> {
         period_of(self.document.tick, self.table?)
+    }
+
+    /// Returns the greatest jitter that the table may have: one tick less than its least `every`. Returns `None` if
+    /// there is no table or it has no such ticks.
+    pub fn most_jitter(&self) -> Option<u64> {
+        most_jitter_of(self.document.tick, self.table?)
     }
 }
 

@@ -1,10 +1,11 @@
 //! Tests of whether a value is what its key needs.
 
 use crate::document::server_named;
-use crate::keys::{Key, Want};
+use crate::keys::{EVERY, Key, Want};
 use crate::spot::Spot;
 use cbs_job::MAX_UNITS;
 use cbs_rate::MAX_PERIOD;
+use cbs_rules::LIMIT;
 use cbsrun_loads::ticks;
 use cbsrun_times::{Rounding, tick_of};
 use cbsrun_toml_tables::{
@@ -62,6 +63,14 @@ pub fn two_numbers(tick: Option<u64>, key: Key, value: &Value) -> Result<(i64, i
     Ok((whole(tick, key, least)?, whole(tick, key, greatest)?))
 }
 
+/// Returns the greatest jitter that a table may have, in a file with this tick: one tick less than its least `every`.
+/// Returns `None` if that is no number of ticks.
+pub(crate) fn most_jitter_of(tick: Option<u64>, table: &Table) -> Option<u64> {
+    let every = two_numbers(tick, EVERY, optional(table, "every")?).ok()?;
+    let least = within(1, LIMIT, every.0).ok()?;
+    Some(least.saturating_sub(1))
+}
+
 /// Tests that two numbers are a range from `low` to `high`.
 fn test_range(low: u64, high: u64, numbers: (i64, i64)) -> Result<(), FileKind> {
     let (least, greatest) = numbers;
@@ -73,6 +82,12 @@ fn test_range(low: u64, high: u64, numbers: (i64, i64)) -> Result<(), FileKind> 
 /// Tests that a number is a budget. If the period is no valid period, tests the budget without it.
 fn test_budget(budget: i64, period: Option<u64>) -> Result<(), FileKind> {
     within(1, period.unwrap_or(u64::MAX), budget)?;
+    Ok(())
+}
+
+/// Tests that a number is a jitter. If the ticks between jobs are not valid, tests the jitter without them.
+fn test_jitter(jitter: i64, most: Option<u64>) -> Result<(), FileKind> {
+    within(0, most.unwrap_or(u64::MAX), jitter)?;
     Ok(())
 }
 
@@ -146,6 +161,7 @@ pub(crate) fn test(key: Key, value: &Value, spot: &Spot<'_>) -> Result<(), FileK
     match key.want {
         Want::Number(least, greatest) => test_number(least, greatest, whole(tick, key, value)?),
         Want::Budget => test_budget(whole(tick, key, value)?, spot.period()),
+        Want::Jitter => test_jitter(whole(tick, key, value)?, spot.most_jitter()),
         Want::Server => test_server(servers, value),
         Want::Range(least, greatest) => {
             test_range(least, greatest, two_numbers(tick, key, value)?)

@@ -5,7 +5,7 @@ use Rattle.serde_json.specs.Data.{Data, null, boolean, number, unsigned, string,
 use Rattle.cbsrun_json.specs.declared.scalar.Scalar.{Scalar}
 use Rattle.cbsrun_json.specs.declared.scalar.Scalar.TheVariants as scalar
 
--- the members, and these put among them, in the order of their keys
+-- the members, with these put among them one after another. Of two with one key the later one stays
 abbrev pub with_members : List (List ℕ × Data) → Members → Members
 with_members [] ms = ms
 with_members (m ∷ more) ms = with_members more (put m.0 m.1 ms)

@@ -18,7 +18,8 @@ pub trait ToJson {
         ensures { IfOk result (λ v. view v ≡ shown self.now) };
 }
 
-/// Puts more members among members. The only error is out of memory.
+/// Puts more members among members. A key that is there already gets the new value. The only error is out of memory;
+/// some may have been put then.
 pub fn put_all<T: ToJson>(
     alloc: Global,
     members: &mut Map<String, Value>,
@@ -34,7 +35,7 @@ pub fn put_all<T: ToJson>(
     Ok(())
 }
 
-/// Returns the object of these members. The only error is out of memory.
+/// Returns the object of these members. Of two with one key the later one stays. The only error is out of memory.
 pub fn object_of<T: ToJson>(alloc: Global, told: &[(&str, T)]) -> Result<Value, AllocError>
     ensures { IfOk result (λ v. view v ≡ object_of (map (member_of T.shown) told.now)) }
 {

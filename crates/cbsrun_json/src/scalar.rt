@@ -21,7 +21,7 @@ pub enum Scalar<'a> {
     Whole(u64),
     /// A number, or null if there is none.
     WholeIf(Option<u64>),
-    /// A number, at most 2^64 - 1, or null if there is none.
+    /// A number, told as 2^64 - 1 if it is greater, or null if there is none.
     LongIf(Option<u128>),
     /// Two numbers: a part and its whole, a sum and a count, or the least and the greatest.
     Pair(u64, u64),

@@ -9,6 +9,7 @@ use Rattle.cbs_rate.specs.Rate.{Rate}
 use Rattle.cbs_rules.specs.Rules.{clock_end}
 use Rattle.cbs_rules.specs.declared.mode.Mode.{Mode}
 use Rattle.cbs_rules.specs.declared.mode.Mode.TheVariants.{Soft}
+use Rattle.cbsrun_simulate.specs.Released.{distance}
 use Rattle.cbsrun_simulate.specs.declared.terms.SourceTerms.{SourceTerms}
 use Rattle.cbsrun_times.specs.declared.ticks.Rounding.TheVariants.{Up, Whole}
 use Rattle.cbsrun_toml_tables.specs.declared.fault.FileFault.{FileFault}
@@ -120,12 +121,12 @@ no_server = record { mode = Soft; given = None }
 -- within how many ticks a source wants its jobs finished, if it does not say so: in its server's period, or, if that is
 -- left out, before its next job may come
 abbrev pub due_in : Option Given → ℕ → ℕ
-due_in None every = every
-due_in (Some g) every = g.period
+due_in None distance = distance
+due_in (Some g) distance = g.period
 
 -- the same by the server of a source
 abbrev pub due_in_sketch : List ServerSketch → SourceTerms → ℕ
-due_in_sketch servers t = due_in (get_or servers t.server no_server).given t.every.least
+due_in_sketch servers t = due_in (get_or servers t.server no_server).given (distance t)
 
 -- the sketch that a top table spells
 unfoldable pub sketch_in : Members → Result SketchFile FileFault

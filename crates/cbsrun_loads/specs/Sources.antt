@@ -1,5 +1,5 @@
 -- What one entry of `source` spells in a load file.
-use Rattle.std.specs.Prelude.{ℕ, ℤ, codes, bytes_eq, get_or, unwrap_or, List, [], ◌∷◌, Option, Some, None, Result, Ok, Err}
+use Rattle.std.specs.Prelude.{ℕ, ℤ, ◌-◌, codes, bytes_eq, get_or, unwrap_or, List, [], ◌∷◌, Option, Some, None, Result, Ok, Err}
 use Rattle.std.specs.List.{position}
 use Rattle.toml.specs.Data.{Data, Members, get_member}
 use Rattle.cbs_rate.specs.Limits.{longest_period, most_units}
@@ -66,16 +66,17 @@ pub record FieldsData : Type 0 where
   pub jobs : Option ℤ
   pub within : Option ℤ
   pub overrun : Option (Option (ℤ × ℤ))
+  pub jitter : Option ℤ
 
 -- the keys that an entry must have, and those that may be left out
 abbrev pub required_keys : List (List ℕ)
 required_keys = codes "server" ∷ codes "every" ∷ codes "units" ∷ []
 
 abbrev pub optional_keys : List (List ℕ)
-optional_keys = codes "first" ∷ codes "jobs" ∷ codes "within" ∷ codes "overrun" ∷ []
+optional_keys = codes "first" ∷ codes "jobs" ∷ codes "within" ∷ codes "overrun" ∷ codes "jitter" ∷ []
 
--- the values of an entry's keys, or the first fault over all of them. Work is rounded up to ticks, and times between jobs
--- and within which they are wanted are rounded down
+-- the values of an entry's keys, or the first fault over all of them. Work and jitter are rounded up to ticks, and times
+-- between jobs and within which they are wanted are rounded down
 unfoldable pub source_fields : Option ℕ → Data → Result FieldsData FileKind
 source_fields tick entry = do
   table ← table_with required_keys optional_keys entry
@@ -86,6 +87,7 @@ source_fields tick entry = do
   jobs_number ← optional_integer_at (codes "jobs") table
   within_number ← optional_ticks_at tick Down (codes "within") table
   overrun_numbers ← optional_numbers_at tick Up (codes "overrun") table
+  jitter_number ← optional_ticks_at tick Up (codes "jitter") table
   Ok (record {
     server = server_name;
     first = first_number;
@@ -94,10 +96,12 @@ source_fields tick entry = do
     jobs = jobs_number;
     within = within_number;
     overrun = overrun_numbers;
+    jitter = jitter_number;
   })
 
--- The source that the values spell, or the fault that one is out of range. If they are left out, `first` and `overrun`
--- are 0, and the number of `jobs` and the ticks `within` which each is to be finished have no limit.
+-- The source that the values spell, or the fault that one is out of range. The jitter is less than the least `every`. If
+-- they are left out, `first`, `overrun` and `jitter` are 0, and the number of `jobs` and the ticks `within` which each is
+-- to be finished have no limit.
 unfoldable pub spelled_by : List (List ℕ) → FieldsData → Result SourceTerms FileKind
 spelled_by names f = do
   server ← server_named names f.server
@@ -107,10 +111,12 @@ spelled_by names f = do
   jobs ← of_some (within 1 clock_end) f.jobs
   deadline ← of_some (within 1 clock_end) f.within
   overrun ← of_some (range_within 0 longest_period) f.overrun
+  jitter ← of_some (within 0 (every.least - 1)) f.jitter
   Ok (record {
     server = server;
     first = unwrap_or first 0;
     every = every;
+    jitter = unwrap_or jitter 0;
     units = units;
     jobs = jobs;
     within = deadline;
@@ -149,4 +155,5 @@ fields_view f = record {
   jobs = f.jobs;
   within = f.within;
   overrun = f.overrun;
+  jitter = f.jitter;
 }

@@ -81,14 +81,14 @@ fn servers_of(
     Ok((names, servers))
 }
 
-/// Returns within how many ticks a source wants its jobs finished, if it does not say so. `every` is the least number of
-/// ticks to its next job.
-fn due_in(given: Option<Given>, every: u64) -> u64
-    ensures { result ≡ due_in given every }
+/// Returns within how many ticks a source wants its jobs finished, if it does not say so. `distance` is the least number
+/// of ticks to its next job.
+fn due_in(given: Option<Given>, distance: u64) -> u64
+    ensures { result ≡ due_in given distance }
 {
     match given {
         Some(given) => given.period,
-        None => every,
+        None => distance,
     }
 }
 
@@ -98,7 +98,7 @@ impl Due for Vec<ServerSketch> {
     ghost servers = { λ servers. length servers.items };
 
     fn due(&self, terms: &SourceTerms) -> u64 {
-        due_in(self[usize::from(terms.server)].given, terms.every.least())
+        due_in(self[usize::from(terms.server)].given, terms.distance())
     }
 }
 

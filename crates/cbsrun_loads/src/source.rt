@@ -31,6 +31,7 @@ struct SourceFields<'a> {
     jobs: Option<i64>,
     within: Option<i64>,
     overrun: Option<Option<(i64, i64)>>,
+    jitter: Option<i64>,
 }
 
 /// Returns two numbers of ticks, or `None` if there are fewer or more of them. Refuses a value of another type.
@@ -157,13 +158,13 @@ fn period_at(plan: &Plan, server: u16) -> u64
     }
 }
 
-/// Returns the values of an entry's keys, in a file with this tick, or the first fault over all of them. Work is rounded
-/// up to ticks, and the times between jobs and within which they are wanted are rounded down.
+/// Returns the values of an entry's keys, in a file with this tick, or the first fault over all of them. Work and jitter
+/// are rounded up to ticks, and the times between jobs and within which they are wanted are rounded down.
 #[tactic(auto, unfolding(crate::specs::Sources::source_fields))]
 fn source_fields(tick: Option<u64>, entry: &Value) -> Result<SourceFields<'_>, FileKind>
     ensures { seen fields_view result ≡ source_fields tick (view entry.now) }
 {
-    let optional_keys = ["first", "jobs", "within", "overrun"];
+    let optional_keys = ["first", "jobs", "within", "overrun", "jitter"];
     let table = table_with(entry, &["server", "every", "units"], &optional_keys)?;
     let server = text_at(table, "server")?;
     let first = optional_ticks_at(tick, Rounding::Down, table, "first")?;
@@ -172,6 +173,7 @@ fn source_fields(tick: Option<u64>, entry: &Value) -> Result<SourceFields<'_>, F
     let jobs = optional_integer_at(table, "jobs")?;
     let within = optional_ticks_at(tick, Rounding::Down, table, "within")?;
     let overrun = optional_numbers_at(tick, Rounding::Up, table, "overrun")?;
+    let jitter = optional_ticks_at(tick, Rounding::Up, table, "jitter")?;
     Ok(SourceFields {
         server,
         first,
@@ -180,10 +182,11 @@ fn source_fields(tick: Option<u64>, entry: &Value) -> Result<SourceFields<'_>, F
         jobs,
         within,
         overrun,
+        jitter,
     })
 }
 
-/// Returns the source that the values spell, each in its range.
+/// Returns the source that the values spell, each in its range. The jitter is less than the least `every`.
 #[tactic(auto, unfolding(crate::specs::Sources::spelled_by))]
 fn spelled_by(names: &[String], fields: SourceFields<'_>) -> Result<SourceTerms, FileKind>
     requires { length names.now ≤ most_servers }
@@ -197,10 +200,12 @@ fn spelled_by(names: &[String], fields: SourceFields<'_>) -> Result<SourceTerms,
     let jobs = optional_within(1, LIMIT, fields.jobs)?;
     let deadline = optional_within(1, LIMIT, fields.within)?;
     let overrun = optional_range(0, MAX_PERIOD, fields.overrun)?;
+    let jitter = optional_within(0, every.least() - 1, fields.jitter)?;
     Ok(SourceTerms {
         server,
         first: first.unwrap_or(0),
         every,
+        jitter: jitter.unwrap_or(0),
         units,
         jobs,
         within: deadline,

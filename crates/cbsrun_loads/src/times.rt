@@ -33,8 +33,9 @@ fn ticks_by(tick: u64, rounding: Rounding, text: &str) -> Result<i64, FileKind>
     }
 }
 
-/// Returns a number of ticks: an integer, or, if the file says how long a tick is, a text that tells a time. Refuses a
-/// value of another type.
+/// Returns a number of ticks. An integer is returned as it is, also if it is negative. A text is a time, of 0 to 10^12
+/// ticks, and is read only if the file says how long a tick is. Refuses a text that tells no such time as out of range,
+/// and any other value as of another type.
 pub fn ticks(tick: Option<u64>, rounding: Rounding, value: &Value) -> Result<i64, FileKind>
     ensures { result ≡ ticks tick rounding (view value.now) }
 {

@@ -1,5 +1,5 @@
 -- Reservations with which the jobs of a server are promised in time.
-use Rattle.std.specs.Prelude.{ℕ, ◌≡◌, ◌⊎◌, ◌+◌, ◌*◌, ◌≤◌, ◌<◌, Bool, true, false, leb, List, map, flat_map, Option, Some, None, MatchOption, option_map}
+use Rattle.std.specs.Prelude.{ℕ, ◌≡◌, ◌⊎◌, ◌+◌, ◌*◌, ◌≤◌, ◌<◌, Bool, true, false, leb, if◌then◌else◌, List, map, flat_map, Option, Some, None, IsSome, MatchOption, option_map}
 use Rattle.std.specs.Int.{div_ceil}
 use Rattle.std.specs.List.{All, range_with_len}
 use Rattle.cbs_rate.specs.Limits.{most_backlog}
@@ -89,9 +89,19 @@ IsBacklogEnough sources w server n = (n ≤ most_backlog) × IsEnough sources (w
 abbrev pub IsNoBacklogEnough : List Source → Wanted → Rate → Type 0
 IsNoBacklogEnough sources w server = (n : ℕ) → n ≤ most_backlog → IsNotEnough sources (with_backlog n w) server
 
+-- by how many ticks the others may delay the jobs, if that alone is longer than is wanted
+abbrev pub delayed_longer : Wanted → Option ℕ
+delayed_longer w = if is_by w.delay w.within then None else Some w.delay
+
+-- no reservation is enough, with whatever backlog
+abbrev pub IsHopeless : List Source → Wanted → Type 0
+IsHopeless sources w = (server : Rate) (n : ℕ) → IsNotEnough sources (with_backlog n w) server
+
 -- Why the server needs a remedy, and what would do: a backlog, if one would with its own reservation, and another
--- reservation, if one is found
+-- reservation, if one is found. The delay by the others, if that alone is too long: then nothing would do
 pub record IsRemedy (sources : List Source) (w : Wanted) (server : Rate) (r : Remedy) : Type 0 where
   pub needed : IsNotEnough sources w server
   pub backlog : MatchOption r.backlog (IsNoBacklogEnough sources w server) (IsBacklogEnough sources w server)
   pub reservation : IsProposal sources w (option_map rate_of r.reservation)
+  pub delayed : r.delayed ≡ delayed_longer w
+  pub hopeless : IsSome r.delayed → IsHopeless sources w

@@ -2,10 +2,10 @@
 
 ghost use Rattle.std.specs.Prelude.{◌≡◌, ◌≤◌, true, false, MatchOption, option_map};
 ghost use Rattle.cbs_rate.specs.Limits.{most_backlog};
-ghost use Rattle.cbsrun_proposals.specs.Proposals.{rate_of, with_backlog, IsBacklogEnough, IsEnough, IsNoBacklogEnough, IsNotEnough, IsRemedy};
+ghost use Rattle.cbsrun_proposals.specs.Proposals.{delayed_longer, rate_of, with_backlog, IsBacklogEnough, IsEnough, IsNoBacklogEnough, IsNotEnough, IsRemedy};
 
 use crate::proposal::propose;
-use crate::wanted::{Wanted, is_enough};
+use crate::wanted::{Wanted, is_by, is_enough};
 use cbs_core::MAX_BACKLOG;
 use cbs_guarantee::{NotPromised, Source, guaranteed};
 use cbs_rate::Reservation;
@@ -27,6 +27,9 @@ pub struct Remedy {
     /// The reservation of least share, among those that are looked at, that is enough: see
     /// [`propose`](crate::propose).
     pub reservation: Option<Proposal>,
+    /// By how many ticks the other servers may delay the jobs, if that alone is longer than is wanted. Then no reservation
+    /// would do, with whatever backlog.
+    pub delayed: Option<u64>,
 }
 
 /// Returns whether a server of this reservation promises each job in time with this backlog.
@@ -76,6 +79,17 @@ fn proposal_of(reservation: Option<Reservation>) -> Option<Proposal>
     }
 }
 
+/// Returns by how many ticks the others may delay the jobs, if that alone is longer than is wanted.
+fn delayed_longer(wanted: Wanted) -> Option<u64>
+    ensures { result ≡ delayed_longer wanted }
+{
+    if is_by(wanted.delay, wanted.within) {
+        None
+    } else {
+        Some(wanted.delay)
+    }
+}
+
 /// Returns what would do for a server of this reservation with these sources, or `None` if its reservation and backlog
 /// do: then each job is promised, and in time.
 pub fn remedy_for(server: Reservation, sources: &[Source], wanted: Wanted) -> Option<Remedy>
@@ -88,5 +102,6 @@ pub fn remedy_for(server: Reservation, sources: &[Source], wanted: Wanted) -> Op
     Some(Remedy {
         backlog: greater_backlog(server, sources, wanted),
         reservation: proposal_of(propose(sources, wanted)),
+        delayed: delayed_longer(wanted),
     })
 }

@@ -19,7 +19,7 @@ pub struct Wanted {
 }
 
 /// Returns whether a time in ticks is at most the wanted one. Without a wanted time, returns `true`.
-fn is_by(time: u64, within: Option<u64>) -> bool
+pub(crate) fn is_by(time: u64, within: Option<u64>) -> bool
     ensures { result ≡ is_by time within }
 {
     match within {

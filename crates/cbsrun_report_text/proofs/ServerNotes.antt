@@ -6,12 +6,14 @@ use Rattle.cbsrun_report_text.specs.declared.report.ServerReport.{ServerReport}
 use Rattle.cbsrun_report_text.proofs.Filters.{filtered_pieces}
 
 -- if there is a note, a blank line stands before the notes
-some_notes : (tick : Option ℕ) (clock : ℕ) (wrong : List ServerReport) → 0 < length wrong → notes_text tick clock wrong ≡ codes "\n" ++ flat_map (note_text tick clock) wrong
-some_notes tick clock [] h = absurd (omega arith)
-some_notes tick clock (s ∷ wrong) h = refl
+some_notes : (tick : Option ℕ) (clock : ℕ) (servers wrong : List ServerReport) → 0 < length wrong
+    → notes_text tick clock servers wrong ≡ codes "\n" ++ flat_map (note_text tick clock servers) wrong
+some_notes tick clock servers [] h = absurd (omega arith)
+some_notes tick clock servers (s ∷ wrong) h = refl
 
 -- some servers are not in time. Their notes are those of all servers, since a server that is in time has none
 pub notes_are : (tick : Option ℕ) (clock : ℕ) (servers : List ServerReport) → 0 < length (not_in_time servers)
-    → notes_text tick clock (not_in_time servers) ≡ codes "\n" ++ flat_map (note_if_wrong tick clock) servers
+    → notes_text tick clock servers (not_in_time servers) ≡ codes "\n" ++ flat_map (note_if_wrong tick clock servers) servers
 notes_are tick clock servers h =
-    some_notes tick clock (not_in_time servers) h ∙ ap (λ t. codes "\n" ++ t) (filtered_pieces is_wrong (note_text tick clock) servers)
+    some_notes tick clock servers (not_in_time servers) h
+    ∙ ap (λ t. codes "\n" ++ t) (filtered_pieces is_wrong (note_text tick clock servers) servers)

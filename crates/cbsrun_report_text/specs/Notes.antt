@@ -1,5 +1,6 @@
 -- The verdict of a report, and the notes below its tables.
-use Rattle.std.specs.Prelude.{ℕ, Bool, eqb, not, if◌then◌else◌, List, [], ◌∷◌, ◌++◌, codes, decimal, filter, length, string_bytes, ◌+◌, ◌*◌, ◌||◌, ltb}
+use Rattle.std.specs.List.{fold}
+use Rattle.std.specs.Prelude.{ℕ, Bool, ◌&&◌, bytes_eq, eqb, not, if◌then◌else◌, List, [], ◌∷◌, ◌++◌, codes, decimal, filter, length, string_bytes, ◌+◌, ◌*◌, ◌||◌, ltb}
 use Rattle.std.specs.Prelude.{flat_map, Option, Some, None}
 use Rattle.cbsrun_figures.specs.declared.figures.Figures.{Figures}
 use Rattle.cbsrun_report_text.specs.Reports.{accepted, released, late, is_in_time, sum_of}
@@ -73,26 +74,51 @@ cover_text tick None period = codes "      no budget covers that\n"
 cover_text tick (Some budget) period =
     codes "      " ++ great_text tick budget ++ codes " in every " ++ time_text tick period ++ codes " would cover it; 'cbsrun check' says what fits\n"
 
--- why the jobs of a server are late or refused, although the server has enough
-abbrev pub burst_text : List ℕ
-burst_text = codes "      that is enough: its jobs come in bursts, or less time is wanted than they take\n"
+-- how many ticks a server was charged, if there is one
+abbrev pub charged_to : Option ServerReport → ℕ
+charged_to None = 0
+charged_to (Some o) = o.figures.charged
 
--- which budget would cover what the server was asked for, or that it has enough
-abbrev pub remedy_text : Option ℕ → ℕ → ServerReport → List ℕ
-remedy_text tick clock s =
+-- the server was charged more than another one so far, and is not s
+abbrev pub delays_more : ServerReport → Option ServerReport → ServerReport → Bool
+delays_more s so_far o = not (bytes_eq (string_bytes o.name) (string_bytes s.name)) && ltb (charged_to so_far) o.figures.charged
+
+-- the one of these servers, other than s, that was charged most, if one was charged; of two that were charged as much, the
+-- first
+abbrev pub delaying : ServerReport → List ServerReport → Option ServerReport
+delaying s servers = fold (λ so_far o. if delays_more s so_far o then Some o else so_far) None servers
+
+-- how a server of this name, whose greatest charge is so many ticks, may have delayed another
+unfoldable pub delay_text : Option ℕ → List ℕ → ℕ → List ℕ
+delay_text tick name ticks = codes "units of " ++ name ++ codes " overran by up to " ++ time_text tick ticks
+
+-- .. if there is such a server
+unfoldable pub delay_if : Option ℕ → Option ServerReport → List ℕ
+delay_if tick None = []
+delay_if tick (Some o) = delay_text tick (string_bytes o.name) o.figures.greatest_charge ++ codes ", "
+
+-- why the jobs of a server are late or refused, although the server has enough. If another server was charged, that may be
+-- why
+unfoldable pub enough_text : Option ℕ → Option ServerReport → List ℕ
+enough_text tick other =
+    codes "      that is enough: " ++ delay_if tick other ++ codes "its jobs come in bursts, or less time is wanted than they take\n"
+
+-- which budget would cover what a server was asked for, or that it has enough
+abbrev pub remedy_text : Option ℕ → ℕ → List ServerReport → ServerReport → List ℕ
+remedy_text tick clock servers s =
     if ltb (s.reservation.budget * clock) (wanted s * s.reservation.period)
     then cover_text tick (cover_of (wanted s) s.reservation.period clock) s.reservation.period
-    else burst_text
+    else enough_text tick (delaying s servers)
 
--- the note of a server that is not in time
-unfoldable pub note_text : Option ℕ → ℕ → ServerReport → List ℕ
-note_text tick clock s = asked_text clock s ++ remedy_text tick clock s
+-- the note of one of these servers that is not in time
+unfoldable pub note_text : Option ℕ → ℕ → List ServerReport → ServerReport → List ℕ
+note_text tick clock servers s = asked_text clock s ++ remedy_text tick clock servers s
 
 -- the note of a server, if it is not in time
-abbrev pub note_if_wrong : Option ℕ → ℕ → ServerReport → List ℕ
-note_if_wrong tick clock s = if is_wrong s then note_text tick clock s else []
+abbrev pub note_if_wrong : Option ℕ → ℕ → List ServerReport → ServerReport → List ℕ
+note_if_wrong tick clock servers s = if is_wrong s then note_text tick clock servers s else []
 
--- an empty line and the notes of servers, if there are servers
-abbrev pub notes_text : Option ℕ → ℕ → List ServerReport → List ℕ
-notes_text tick clock [] = []
-notes_text tick clock (s ∷ servers) = codes "\n" ++ flat_map (note_text tick clock) (s ∷ servers)
+-- an empty line and the notes of some of these servers, if there are any
+abbrev pub notes_text : Option ℕ → ℕ → List ServerReport → List ServerReport → List ℕ
+notes_text tick clock servers [] = []
+notes_text tick clock servers (s ∷ wrong) = codes "\n" ++ flat_map (note_text tick clock servers) (s ∷ wrong)

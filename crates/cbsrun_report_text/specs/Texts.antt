@@ -35,4 +35,4 @@ tables_text r =
 
 -- the whole report
 abbrev pub report_text : RunReport → List ℕ
-report_text r = verdict_text r.servers.items ++ codes "\n" ++ summary_text r ++ tables_text r ++ notes_text r.tick r.clock (not_in_time r.servers.items)
+report_text r = verdict_text r.servers.items ++ codes "\n" ++ summary_text r ++ tables_text r ++ notes_text r.tick r.clock r.servers.items (not_in_time r.servers.items)

@@ -1,8 +1,8 @@
 //! Notes on what to do about servers that are not in time.
 
-ghost use Rattle.std.specs.Prelude.{◌≡◌, ◌++◌, ◌≤◌, ◌^◌, ◌<◌, OnOk, string_bytes};
+ghost use Rattle.std.specs.Prelude.{◌≡◌, ◌++◌, ◌≤◌, ◌^◌, ◌<◌, option_map, OnOk, string_bytes};
 ghost use Rattle.cbs_rate.specs.Limits.{longest_period};
-ghost use Rattle.cbsrun_report_text.specs.Notes.{asked_text, cover_of, cover_text, remedy_text, note_if_wrong, notes_text, not_in_time};
+ghost use Rattle.cbsrun_report_text.specs.Notes.{asked_text, cover_of, cover_text, delaying, delays_more, delay_if, delay_text, enough_text, remedy_text, note_if_wrong, notes_text, not_in_time};
 
 use crate::numbers::{Percent, append_great};
 use crate::report::ServerReport;
@@ -60,15 +60,94 @@ fn append_cover(
     text.push_str(" would cover it; 'cbsrun check' says what fits\n")
 }
 
+/// Returns whether a server was charged more than another one so far, and is not this one.
+fn delays_more(server: &ServerReport, so_far: Option<&ServerReport>, other: &ServerReport) -> bool
+    ensures { result ≡ delays_more server.now (option_map (λ o. o.now) so_far.entry) other.now }
+{
+    let charged = match so_far {
+        Some(so_far) => so_far.figures.charged,
+        None => 0,
+    };
+    other.name.as_str() != server.name.as_str() && charged < other.figures.charged
+}
+
+/// Returns the one of these servers, other than this one, that was charged most, or `None` if none was charged. Of two
+/// that were charged as much, returns the first.
+fn delaying<'a>(servers: &'a [ServerReport], server: &ServerReport) -> Option<&'a ServerReport>
+    ensures { option_map (λ o. o.now) result ≡ delaying server.now servers.now }
+{
+    let mut most = None;
+    for other in servers {
+        if delays_more(server, most, other) {
+            most = Some(other);
+        }
+    }
+    most
+}
+
+/// Appends how a server of this name, whose greatest charge is so many ticks, may have delayed another.
+#[tactic(auto, unfolding(crate::specs::Notes::delay_text))]
+fn append_delay(
+    text: &mut String,
+    tick: Option<u64>,
+    name: &str,
+    ticks: u64,
+) -> Result<(), AllocError>
+    ensures { OnOk result (string_bytes text.new ≡ string_bytes text.old
+        ++ delay_text tick name.now ticks) }
+{
+    write!(text, "units of {name} overran by up to ")?;
+    append_time(text, tick, ticks)
+}
+
+/// Appends how a server may have delayed another, if there is such a server.
+#[tactic(auto, unfolding(crate::specs::Notes::delay_if))]
+fn append_delay_if(
+    text: &mut String,
+    tick: Option<u64>,
+    other: Option<&ServerReport>,
+) -> Result<(), AllocError>
+    ensures { OnOk result (string_bytes text.new ≡ string_bytes text.old
+        ++ delay_if tick (option_map (λ o. o.now) other.entry)) }
+{
+    let Some(other) = other else {
+        return Ok(());
+    };
+    append_delay(
+        text,
+        tick,
+        other.name.as_str(),
+        other.figures.greatest_charge,
+    )?;
+    text.push_str(", ")
+}
+
+/// Appends why the jobs of a server are late or refused, although the server has enough: another server may have delayed
+/// it.
+#[tactic(auto, unfolding(crate::specs::Notes::enough_text))]
+fn append_enough(
+    text: &mut String,
+    tick: Option<u64>,
+    other: Option<&ServerReport>,
+) -> Result<(), AllocError>
+    ensures { OnOk result (string_bytes text.new ≡ string_bytes text.old
+        ++ enough_text tick (option_map (λ o. o.now) other.entry)) }
+{
+    text.push_str("      that is enough: ")?;
+    append_delay_if(text, tick, other)?;
+    text.push_str("its jobs come in bursts, or less time is wanted than they take\n")
+}
+
 /// Appends which budget would cover what a server was asked for, or that the server has enough.
 fn append_remedy(
     text: &mut String,
     tick: Option<u64>,
     clock: u64,
+    servers: &[ServerReport],
     server: &ServerReport,
 ) -> Result<(), AllocError>
     ensures { OnOk result (string_bytes text.new ≡ string_bytes text.old
-        ++ remedy_text tick clock server.now) }
+        ++ remedy_text tick clock servers.now server.now) }
 {
     let period = server.reservation.period();
     let wanted = server.wanted();
@@ -76,27 +155,26 @@ fn append_remedy(
     if share < wanted * u128::from(period) {
         return append_cover(text, tick, cover_of(wanted, period, clock), period);
     }
-    text.push_str(
-        "      that is enough: its jobs come in bursts, or less time is wanted than they take\n",
-    )
+    append_enough(text, tick, delaying(servers, server))
 }
 
-/// Appends the note of a server, if it is not in time.
+/// Appends the note of one of these servers, if it is not in time.
 #[tactic(auto, unfolding(crate::specs::Notes::note_text))]
 fn append_note(
     text: &mut String,
     tick: Option<u64>,
     clock: u64,
+    servers: &[ServerReport],
     server: &ServerReport,
 ) -> Result<(), AllocError>
     ensures { OnOk result (string_bytes text.new ≡ string_bytes text.old
-        ++ note_if_wrong tick clock server.now) }
+        ++ note_if_wrong tick clock servers.now server.now) }
 {
     if server.is_in_time() {
         return Ok(());
     }
     append_asked(text, clock, server)?;
-    append_remedy(text, tick, clock, server)
+    append_remedy(text, tick, clock, servers, server)
 }
 
 /// Appends an empty line and the notes of the servers that are not in time, if there are any.
@@ -107,14 +185,14 @@ pub(crate) fn append_notes(
     servers: &[ServerReport],
 ) -> Result<(), AllocError>
     ensures { OnOk result (string_bytes text.new ≡ string_bytes text.old
-        ++ notes_text tick clock (not_in_time servers.now)) }
+        ++ notes_text tick clock servers.now (not_in_time servers.now)) }
 {
     if count_wrong(servers) == 0 {
         return Ok(());
     }
     text.push_str("\n")?;
     for server in servers {
-        append_note(text, tick, clock, server)?;
+        append_note(text, tick, clock, servers, server)?;
     }
     Ok(())
 }

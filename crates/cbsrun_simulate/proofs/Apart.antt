@@ -1,66 +1,75 @@
 -- What the releases of sources owe to the terms of their sources.
-use Rattle.std.proofs.Common.{◌≡◌, ◌≢◌, ℕ, zero, suc, ◌+◌, ◌≤◌, ◌<◌, leb, ltb, List, [], ◌∷◌, arith, refl, sym, ap, inl, inr, Some}
+use Rattle.std.proofs.Common.{◌≡◌, ◌≢◌, ℕ, zero, suc, ◌+◌, ◌≤◌, ◌<◌, max, leb, ltb, List, [], ◌∷◌, arith, refl, sym, ap, inl, inr, Some}
 use Rattle.std.specs.Prelude.{slice_get}
 use Rattle.std.specs.List.{AllByRecursion}
 use Rattle.std.proofs.lemmas.Bool.{cases_Bool}
 use Rattle.std.proofs.lemmas.Bool.Decides.{nat_tests}
 use Rattle.rand_pcg.specs.Lcg.{Lcg}
 use Rattle.cbs_lists.proofs.Lists.{AllByRecursion-weaker}
-use Rattle.cbsrun_simulate.specs.Drawing.{drawn, release_of, released, released_by, released_by_all}
+use Rattle.cbsrun_simulate.specs.Drawing.{drawn, up_to, release_of, released, released_by, released_by_all}
 use Rattle.cbsrun_simulate.specs.Merging.{order_from, order_merged, ordered_released, put, put_all, merged}
 use Rattle.cbsrun_simulate.specs.Releases.{IsInOrder}
 use Rattle.cbsrun_simulate.specs.declared.release.Release.{Release}
 use Rattle.cbsrun_simulate.specs.declared.terms.SourceTerms.{SourceTerms}
-use Rattle.cbsrun_simulate.specs.Released.{HasRanges, IsOfTerms, IsOfSource, IsLater, AreApart, least_every}
+use Rattle.cbsrun_simulate.specs.Released.{HasRanges, IsOfTerms, IsOfSource, IsLater, AreApart, distance, least_distance}
 use Rattle.cbsrun_simulate.proofs.Draws.{drawn_within}
 
 -- each release of a source is one of its terms
-released_are : (place : ℕ) (t : SourceTerms) (until k tick : ℕ) (g : Lcg) → 0 < t.units.least → HasRanges t
-    → AllByRecursion (λ r. (r.source ≡ place) × IsOfTerms until t r) (released place t until k tick g)
-released_are place t until zero tick g some ranges = tt
-released_are place t until (suc k) tick g some ranges =
+released_are : (place : ℕ) (t : SourceTerms) (until k nominal since : ℕ) (g : Lcg) → 0 < t.units.least → HasRanges t
+    → AllByRecursion (λ r. (r.source ≡ place) × IsOfTerms until t r) (released place t until k nominal since g)
+released_are place t until zero nominal since g some ranges = tt
+released_are place t until (suc k) nominal since g some ranges =
     let u = drawn t.units g in
     let o = drawn t.overrun u.1 in
-    let e = drawn t.every o.1 in
+    let j = drawn (up_to t.jitter) o.1 in
+    let e = drawn t.every j.1 in
+    let tick : ℕ = max since (nominal + j.0) in
     let units = drawn_within t.units g ranges.units in
     let overrun = drawn_within t.overrun u.1 ranges.overrun in
     let least = units.0 in
     elim (cases_Bool (ltb tick until)) [
       | inl y ↦ rw y (
         (refl, record { server = refl; some = omega arith; units = units.1; overrun = overrun.1; early = let lt : tick < until = grind (arith, nat_tests) in lt }),
-        released_are place t until k (tick + e.0) e.1 some ranges,
+        released_are place t until k (nominal + e.0) tick e.1 some ranges,
       )
       | inr n ↦ rw n tt
     ]
 
--- none comes before the first
-released_from : (place : ℕ) (t : SourceTerms) (until k tick from : ℕ) (g : Lcg) → from ≤ tick → AllByRecursion (λ r. from ≤ r.tick) (released place t until k tick g)
-released_from place t until zero tick from g le = tt
-released_from place t until (suc k) tick from g le =
+-- none comes before the first nominal tick
+released_from : (place : ℕ) (t : SourceTerms) (until k nominal since from : ℕ) (g : Lcg) → from ≤ nominal
+    → AllByRecursion (λ r. from ≤ r.tick) (released place t until k nominal since g)
+released_from place t until zero nominal since from g le = tt
+released_from place t until (suc k) nominal since from g le =
     let u = drawn t.units g in
     let o = drawn t.overrun u.1 in
-    let e = drawn t.every o.1 in
+    let j = drawn (up_to t.jitter) o.1 in
+    let e = drawn t.every j.1 in
+    let tick : ℕ = max since (nominal + j.0) in
     elim (cases_Bool (ltb tick until)) [
-      | inl y ↦ rw y (le, released_from place t until k (tick + e.0) from e.1 (omega arith))
+      | inl y ↦ rw y (let here : from ≤ tick = omega arith in here, released_from place t until k (nominal + e.0) tick from e.1 (omega arith))
       | inr n ↦ rw n tt
     ]
 
--- the releases of a source are its least distance apart
-released_apart : (every : ℕ → ℕ) (place : ℕ) (t : SourceTerms) (until k tick : ℕ) (g : Lcg) → every place ≡ t.every.least → HasRanges t
-    → AreApart every (released place t until k tick g)
-released_apart every place t until zero tick g is ranges = tt
-released_apart every place t until (suc k) tick g is ranges =
+-- the releases of a source are its least distance apart: one comes at most the jitter later than its nominal tick, and
+-- the next not before its own
+released_apart : (gap : ℕ → ℕ) (place : ℕ) (t : SourceTerms) (until k nominal since : ℕ) (g : Lcg) → gap place ≡ distance t
+    → t.jitter ≤ t.every.least → HasRanges t → since ≤ nominal + t.jitter → AreApart gap (released place t until k nominal since g)
+released_apart gap place t until zero nominal since g is little ranges le = tt
+released_apart gap place t until (suc k) nominal since g is little ranges le =
     let u = drawn t.units g in
     let o = drawn t.overrun u.1 in
-    let e = drawn t.every o.1 in
-    let rest = released place t until k (tick + e.0) e.1 in
-    let least = (drawn_within t.every o.1 ranges.every).0 in
+    let j = drawn (up_to t.jitter) o.1 in
+    let e = drawn t.every j.1 in
+    let tick : ℕ = max since (nominal + j.0) in
+    let rest = released place t until k (nominal + e.0) tick e.1 in
+    let least = (drawn_within t.every j.1 ranges.every).0 in
+    let most : j.0 ≤ t.jitter = (drawn_within (up_to t.jitter) o.1 (omega arith)).1 in
     let r = release_of place t tick u.0 o.0 in
-    let later : AllByRecursion (IsLater every r) rest =
-    AllByRecursion-weaker (λ q. tick + e.0 ≤ q.tick) (IsLater every r) rest (released_from place t until k (tick + e.0) (tick + e.0) e.1 (omega arith))
-    (λ q le same. omega arith) in
+    let later : AllByRecursion (IsLater gap r) rest =
+    AllByRecursion-weaker (λ q. nominal + e.0 ≤ q.tick) (IsLater gap r) rest
+    (released_from place t until k (nominal + e.0) tick (nominal + e.0) e.1 (omega arith)) (λ q h same. omega arith) in
     elim (cases_Bool (ltb tick until)) [
-      | inl y ↦ rw y (later, released_apart every place t until k (tick + e.0) e.1 is ranges)
+      | inl y ↦ rw y (later, released_apart gap place t until k (nominal + e.0) tick e.1 is little ranges (omega arith))
       | inr n ↦ rw n tt
     ]
 
@@ -74,27 +83,27 @@ all_put_all P [] qs some all = all
 all_put_all P (r ∷ rs) qs some all = all_put P r (put_all rs qs) some.0 (all_put_all P rs qs some.1 all)
 
 -- a release before all others of its source stays before them
-apart_put : (every : ℕ → ℕ) (r : Release) (qs : List Release) → 0 < every r.source → AllByRecursion (IsLater every r) qs → AreApart every qs → AreApart every (put r qs)
-apart_put every r [] some later apart = (tt, tt)
-apart_put every r (q ∷ qs) some later apart = elim (cases_Bool (leb r.tick q.tick)) [
+apart_put : (gap : ℕ → ℕ) (r : Release) (qs : List Release) → 0 < gap r.source → AllByRecursion (IsLater gap r) qs → AreApart gap qs → AreApart gap (put r qs)
+apart_put gap r [] some later apart = (tt, tt)
+apart_put gap r (q ∷ qs) some later apart = elim (cases_Bool (leb r.tick q.tick)) [
   | inl t ↦ rw t (later, apart)
   | inr f ↦
       let before : q.tick < r.tick = grind (arith, nat_tests) in
       rw f (
-        all_put (IsLater every q) r qs (λ same. let h = later.0 (sym same) in absurd (omega arith)) apart.0,
-        apart_put every r qs some later.1 apart.1,
+        all_put (IsLater gap q) r qs (λ same. let h = later.0 (sym same) in absurd (omega arith)) apart.0,
+        apart_put gap r qs some later.1 apart.1,
       )
 ]
 
 -- the releases of one source more, none of which are among the others
-apart_put_all : (every : ℕ → ℕ) (place : ℕ) (rs qs : List Release) → 0 < every place → AllByRecursion (λ r. r.source ≡ place) rs
-    → AllByRecursion (λ q. q.source ≢ place) qs → AreApart every rs → AreApart every qs → AreApart every (put_all rs qs)
-apart_put_all every place [] qs some own others apart rest = rest
-apart_put_all every place (r ∷ rs) qs some own others apart rest =
+apart_put_all : (gap : ℕ → ℕ) (place : ℕ) (rs qs : List Release) → 0 < gap place → AllByRecursion (λ r. r.source ≡ place) rs
+    → AllByRecursion (λ q. q.source ≢ place) qs → AreApart gap rs → AreApart gap qs → AreApart gap (put_all rs qs)
+apart_put_all gap place [] qs some own others apart rest = rest
+apart_put_all gap place (r ∷ rs) qs some own others apart rest =
     let here = own.0 in
-    let far = AllByRecursion-weaker (λ q. q.source ≢ place) (IsLater every r) qs others (λ q ne same. absurd (ne (omega arith))) in
-    apart_put every r (put_all rs qs) (rw here some) (all_put_all (IsLater every r) rs qs apart.0 far)
-    (apart_put_all every place rs qs some own.1 others apart.1 rest)
+    let far = AllByRecursion-weaker (λ q. q.source ≢ place) (IsLater gap r) qs others (λ q ne same. absurd (ne (omega arith))) in
+    apart_put gap r (put_all rs qs) (rw here some) (all_put_all (IsLater gap r) rs qs apart.0 far)
+    (apart_put_all gap place rs qs some own.1 others apart.1 rest)
 
 -- each of all releases is one of a source
 pub merged_are : (until seed first : ℕ) (ts : List SourceTerms) → AllByRecursion (λ t. (0 < t.units.least) × HasRanges t) ts
@@ -102,7 +111,7 @@ pub merged_are : (until seed first : ℕ) (ts : List SourceTerms) → AllByRecur
 merged_are until seed first [] lawful = tt
 merged_are until seed first (t ∷ ts) lawful =
     let here : AllByRecursion (λ r. (r.source ≡ first) × IsOfTerms until t r) (released_by first t until seed) =
-    released_are first t until _ t.first _ lawful.0.0 lawful.0.1 in
+    released_are first t until _ t.first 0 _ lawful.0.0 lawful.0.1 in
     let own = AllByRecursion-weaker (λ r. (r.source ≡ first) × IsOfTerms until t r) (IsOfSource until first (t ∷ ts)) (released_by first t until seed) here
     (λ r h. let at = h.0 in record { place = 0; source = omega arith; terms = t; stands = refl; is = h.1 }) in
     let others = AllByRecursion-weaker (IsOfSource until (first + 1) ts) (IsOfSource until first (t ∷ ts)) (merged (released_by_all (first + 1) ts until seed))
@@ -111,34 +120,35 @@ merged_are until seed first (t ∷ ts) lawful =
     all_put_all (IsOfSource until first (t ∷ ts)) (released_by first t until seed) (merged (released_by_all (first + 1) ts until seed)) own others
 
 -- any two of all releases that are of one source are its least distance apart
-pub merged_apart : (every : ℕ → ℕ) (until seed first : ℕ) (ts : List SourceTerms) → AllByRecursion (λ t. (0 < t.units.least) × HasRanges t) ts
-    → AllByRecursion (λ t. 0 < t.every.least) ts → ((j : ℕ) (t : SourceTerms) → slice_get ts j ≡ Some t → every (first + j) ≡ t.every.least)
-    → AreApart every (merged (released_by_all first ts until seed))
-merged_apart every until seed first [] lawful some is = tt
-merged_apart every until seed first (t ∷ ts) lawful some is =
+pub merged_apart : (gap : ℕ → ℕ) (until seed first : ℕ) (ts : List SourceTerms) → AllByRecursion (λ t. (0 < t.units.least) × HasRanges t) ts
+    → AllByRecursion (λ t. 0 < distance t) ts → ((j : ℕ) (t : SourceTerms) → slice_get ts j ≡ Some t → gap (first + j) ≡ distance t)
+    → AreApart gap (merged (released_by_all first ts until seed))
+merged_apart gap until seed first [] lawful some is = tt
+merged_apart gap until seed first (t ∷ ts) lawful some is =
     let z : first + 0 ≡ first = omega arith in
-    let here : every first ≡ t.every.least = rw z at (is 0 t refl) in
+    let here : gap first ≡ distance t = rw z at (is 0 t refl) in
     let positive = some.0 in
     let rest = merged (released_by_all (first + 1) ts until seed) in
     let own = AllByRecursion-weaker (λ r. (r.source ≡ first) × IsOfTerms until t r) (λ r. r.source ≡ first) (released_by first t until seed)
-    (released_are first t until _ t.first _ lawful.0.0 lawful.0.1) (λ r h. h.0) in
+    (released_are first t until _ t.first 0 _ lawful.0.0 lawful.0.1) (λ r h. h.0) in
     let others = AllByRecursion-weaker (IsOfSource until (first + 1) ts) (λ q. q.source ≢ first) rest (merged_are until seed (first + 1) ts lawful.1)
     (λ r h e. let at = h.source in absurd (omega arith)) in
-    apart_put_all every first (released_by first t until seed) rest (omega arith) own others (released_apart every first t until _ t.first _ here lawful.0.1)
-    (merged_apart every until seed (first + 1) ts lawful.1 some.1
+    apart_put_all gap first (released_by first t until seed) rest (omega arith) own others
+    (released_apart gap first t until _ t.first 0 _ here (omega arith) lawful.0.1 (omega arith))
+    (merged_apart gap until seed (first + 1) ts lawful.1 some.1
     (λ j u e. let n : first + 1 + j ≡ first + suc j = omega arith in rw n (is (suc j) u e)))
 
 -- the least distance of a source, by its place
-pub least_at : (ts : List SourceTerms) (j : ℕ) (t : SourceTerms) → slice_get ts j ≡ Some t → least_every ts j ≡ t.every.least
+pub least_at : (ts : List SourceTerms) (j : ℕ) (t : SourceTerms) → slice_get ts j ≡ Some t → least_distance ts j ≡ distance t
 least_at [] j t e = cc
-least_at (u ∷ ts) zero t e = let same : u ≡ t = cc in ap (λ (v : SourceTerms). v.every.least) same
+least_at (u ∷ ts) zero t e = let same : u ≡ t = cc in ap distance same
 least_at (u ∷ ts) (suc j) t e = least_at ts j t e
 
 -- the releases of each source are in order
 pub each_ordered : (until seed first : ℕ) (ts : List SourceTerms) → AllByRecursion (IsInOrder 0) (released_by_all first ts until seed)
 each_ordered until seed first [] = tt
 each_ordered until seed first (t ∷ ts) =
-    (order_from 0 t.first (released_by first t until seed) (omega arith) (ordered_released first t until _ t.first _), each_ordered until seed (first + 1) ts)
+    (ordered_released first t until _ t.first 0 _, each_ordered until seed (first + 1) ts)
 
 -- so are all releases
 pub all_in_order : (until seed first : ℕ) (ts : List SourceTerms) → IsInOrder 0 (merged (released_by_all first ts until seed))

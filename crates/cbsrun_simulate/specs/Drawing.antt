@@ -1,5 +1,5 @@
 -- Numbers drawn by a generator, and the releases of a source that they give.
-use Rattle.std.specs.Prelude.{ℕ, zero, suc, ◌+◌, ◌-◌, ◌*◌, ◌/◌, ◌^◌, ◌<◌, ◌≤◌, ltb, if◌then◌else◌, List, [], ◌∷◌, unwrap_or}
+use Rattle.std.specs.Prelude.{ℕ, zero, suc, ◌+◌, ◌-◌, ◌*◌, ◌/◌, ◌^◌, ◌<◌, ◌≤◌, max, ltb, if◌then◌else◌, List, [], ◌∷◌, unwrap_or}
 use Rattle.cbs_rate.specs.Limits.{most_units}
 use Rattle.cbs_rules.specs.Rules.{clock_end}
 use Rattle.rand_pcg.specs.Lcg.{Lcg, started, increment_of}
@@ -13,44 +13,54 @@ use Rattle.cbsrun_simulate.specs.declared.terms.SourceTerms.{SourceTerms}
 abbrev pub drawn : Bounds → Lcg → ℕ × Lcg
 drawn r g = if ltb r.least r.greatest then (r.least + (pcg64 g).0 * (r.greatest - r.least + 1) / 2 ^ 64, (pcg64 g).1) else (r.least, g)
 
--- terms within their limits: 1 to 1000000 units, and 1 to 10^12 ticks from one release to the next
+-- the numbers from 0 to a greatest one
+abbrev pub up_to : ℕ → Bounds
+up_to greatest = record { least = 0; greatest = greatest }
+
+-- terms within their limits: 1 to 1000000 units, 1 to 10^12 ticks from one nominal tick to the next, and a jitter that
+-- is less than the least of these
 pub record IsLawful (t : SourceTerms) : Type 0 where
   pub some_units : 0 < t.units.least
   pub few_units : t.units.greatest ≤ most_units
   pub some_ticks : 0 < t.every.least
   pub few_ticks : t.every.greatest ≤ clock_end
+  pub little_jitter : t.jitter < t.every.least
 
 -- the release of a source at a place, at a tick
 abbrev pub release_of : ℕ → SourceTerms → ℕ → ℕ → ℕ → Release
 release_of place t tick units overrun =
     record { tick = tick; source = place; server = t.server; units = units; overrun = overrun; within = t.within }
 
--- at most k releases of a source, the first at a tick, all before the tick `until`. For each, the units are drawn, then
--- the overrun, and then the ticks to the next release
-abbrev pub released : ℕ → SourceTerms → ℕ → ℕ → ℕ → Lcg → List Release
-released place t until zero tick g = []
-released place t until (suc k) tick g =
+-- at most k releases of a source, all before the tick `until`. The next job has a nominal tick, and comes at most the
+-- jitter later, but not before the tick `since`. For each, the units are drawn, then the overrun, then by how much it
+-- comes later, and then the ticks to the next nominal tick
+abbrev pub released : ℕ → SourceTerms → ℕ → ℕ → ℕ → ℕ → Lcg → List Release
+released place t until zero nominal since g = []
+released place t until (suc k) nominal since g =
     let u = drawn t.units g in
     let o = drawn t.overrun u.1 in
-    let e = drawn t.every o.1 in
-    if ltb tick until then release_of place t tick u.0 o.0 ∷ released place t until k (tick + e.0) e.1 else []
+    let j = drawn (up_to t.jitter) o.1 in
+    let e = drawn t.every j.1 in
+    let tick = max since (nominal + j.0) in
+    if ltb tick until then release_of place t tick u.0 o.0 ∷ released place t until k (nominal + e.0) tick e.1 else []
 
 -- at most k releases of a source, whose generator has the seed as its state and the place as its stream
 abbrev pub released_from : ℕ → SourceTerms → ℕ → ℕ → ℕ → List Release
-released_from place t until k seed = released place t until k t.first (started 128 multiplier_128 seed (increment_of 128 place))
+released_from place t until k seed = released place t until k t.first 0 (started 128 multiplier_128 seed (increment_of 128 place))
 
 -- the releases of a source. Without a count of jobs there are as many as fit before the tick `until`. At least one tick
--- lies between two releases, so there are at most `until` of them
+-- lies between two nominal ticks, so there are at most `until` of them
 abbrev pub released_by : ℕ → SourceTerms → ℕ → ℕ → List Release
 released_by place t until seed = released_from place t until (unwrap_or t.jobs until) seed
 
--- the state of a source: how many jobs are left, the tick, units and overrun of the next one, and the generator for
--- later draws
+-- the state of a source: how many jobs are left, the nominal tick of the next one, when it comes, its units and overrun,
+-- and the generator for later draws
 pub record Cursor : Type 0 where
   pub place : ℕ
   pub terms : SourceTerms
   pub until : ℕ
   pub left : ℕ
+  pub nominal : ℕ
   pub tick : ℕ
   pub units : ℕ
   pub overrun : ℕ
@@ -61,7 +71,7 @@ abbrev pub pending_from : ℕ → Cursor → List Release
 pending_from zero c = []
 pending_from (suc k) c =
     let e = drawn c.terms.every c.draws in
-    if ltb c.tick c.until then release_of c.place c.terms c.tick c.units c.overrun ∷ released c.place c.terms c.until k (c.tick + e.0) e.1 else []
+    if ltb c.tick c.until then release_of c.place c.terms c.tick c.units c.overrun ∷ released c.place c.terms c.until k (c.nominal + e.0) c.tick e.1 else []
 
 -- the releases that the source has left
 abbrev pub pending : Cursor → List Release

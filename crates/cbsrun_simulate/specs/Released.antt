@@ -1,5 +1,5 @@
 -- What each release owes to the terms of its source.
-use Rattle.std.specs.Prelude.{◌≡◌, ℕ, ◌+◌, ◌≤◌, ◌<◌, List, [], ◌∷◌, map, get_or, slice_get, Some}
+use Rattle.std.specs.Prelude.{◌≡◌, ℕ, ◌+◌, ◌-◌, ◌≤◌, ◌<◌, List, [], ◌∷◌, map, get_or, slice_get, Some}
 use Rattle.std.specs.List.{AllByRecursion}
 use Rattle.cbsrun_simulate.specs.declared.release.Release.{Release}
 use Rattle.cbsrun_simulate.specs.declared.terms.SourceTerms.{SourceTerms}
@@ -28,13 +28,17 @@ pub record IsOfSource (until first : ℕ) (sources : List SourceTerms) (r : Rele
 
 -- a release of the same source comes at least so many ticks later
 abbrev pub IsLater : (ℕ → ℕ) → Release → Release → Type 0
-IsLater every r q = q.source ≡ r.source → r.tick + every r.source ≤ q.tick
+IsLater gap r q = q.source ≡ r.source → r.tick + gap r.source ≤ q.tick
 
--- any two releases of source i are at least `every i` ticks apart
+-- any two releases of source i are at least `gap i` ticks apart
 abbrev pub AreApart : (ℕ → ℕ) → List Release → Type 0
-AreApart every [] = Unit {0}
-AreApart every (r ∷ rs) = AllByRecursion (IsLater every r) rs × AreApart every rs
+AreApart gap [] = Unit {0}
+AreApart gap (r ∷ rs) = AllByRecursion (IsLater gap r) rs × AreApart gap rs
+
+-- the least ticks from one release of a source to the next: of two, the earlier may come late by the whole jitter
+abbrev pub distance : SourceTerms → ℕ
+distance t = t.every.least - t.jitter
 
 -- the least ticks from one release of source i to the next
-abbrev pub least_every : List SourceTerms → ℕ → ℕ
-least_every sources i = get_or (map (λ t. t.every.least) sources) i 0
+abbrev pub least_distance : List SourceTerms → ℕ → ℕ
+least_distance sources i = get_or (map distance sources) i 0

@@ -2,7 +2,7 @@
 
 ghost use Rattle.std.specs.Prelude.{◌≡◌, ◌≤◌};
 ghost use Rattle.std.specs.Option.{SomeIff};
-ghost use Rattle.cbsrun_simulate.specs.Drawing.{drawn};
+ghost use Rattle.cbsrun_simulate.specs.Drawing.{drawn, up_to};
 
 use rand_core::utils::NextWord;
 use rand_pcg::Pcg64;
@@ -50,6 +50,13 @@ impl Range {
             least: number,
             greatest: number,
         }
+    }
+
+    /// Returns the range from 0 to `greatest`.
+    pub fn up_to(greatest: u64) -> Range
+        ensures { result ≡ up_to greatest }
+    {
+        Range { least: 0, greatest }
     }
 
     /// Returns the least of the numbers.

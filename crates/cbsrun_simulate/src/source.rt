@@ -13,14 +13,18 @@ use std::marker::Model;
 
 /// A source of jobs for one server.
 ///
-/// It has a generator of its own. For each job it draws the units, then the overrun, and then the ticks to the next
-/// job. So no other source and no schedule changes what it releases.
+/// Its jobs have nominal ticks, and each comes up to the jitter later than its nominal tick, but not before the job
+/// before it. So a job that comes late delays no nominal tick.
+///
+/// The source has a generator of its own. For each job it draws the units, then the overrun, then by how much the job
+/// comes later, and then the ticks to the next nominal tick. So no other source and no schedule changes what it releases.
 #[derive(Drop)]
 pub struct Source {
     place: u16,
     terms: SourceTerms,
     until: u64,
     left: u64,
+    nominal: u64,
     tick: u64,
     units: u32,
     overrun: u64,
@@ -40,13 +44,15 @@ impl Model for Source {
       terms = s.terms;
       until = s.until;
       left = s.left;
+      nominal = s.nominal;
       tick = s.tick;
       units = s.units;
       overrun = s.overrun;
       draws = s.draws;
     } };
 
-    ghost invariant = { λ s. IsLawful s.terms × (s.until ≤ clock_end) × (0 < s.units) × (s.units ≤ most_units) };
+    ghost invariant = { λ s. IsLawful s.terms × (s.until ≤ clock_end) × (0 < s.units) × (s.units ≤ most_units)
+        × (s.nominal ≤ s.tick) };
 }
 
 impl Source {
@@ -64,12 +70,14 @@ impl Source {
         let mut draws = Pcg64::new(u128::from(seed), u128::from(place));
         let units = terms.units.draw(&mut draws) as u32;
         let overrun = terms.overrun.draw(&mut draws);
+        let jitter = Range::up_to(terms.jitter).draw(&mut draws);
         Source {
             place,
             terms: *terms,
             until,
             left: terms.jobs.unwrap_or(until),
-            tick: terms.first,
+            nominal: terms.first,
+            tick: terms.first.saturating_add(jitter),
             units,
             overrun,
             draws,
@@ -108,8 +116,10 @@ impl Releases for Source {
     #[inline(always)]
     fn pass(&mut self) {
         self.left -= 1;
-        self.tick += self.terms.every.draw(&mut self.draws);
+        self.nominal += self.terms.every.draw(&mut self.draws);
         self.units = self.terms.units.draw(&mut self.draws) as u32;
         self.overrun = self.terms.overrun.draw(&mut self.draws);
+        let jitter = Range::up_to(self.terms.jitter).draw(&mut self.draws);
+        self.tick = self.tick.max(self.nominal + jitter);
     }
 }

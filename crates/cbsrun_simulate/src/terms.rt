@@ -1,5 +1,8 @@
 //! The terms of a source.
 
+ghost use Rattle.std.specs.Prelude.{◌≡◌};
+ghost use Rattle.cbsrun_simulate.specs.Released.{distance};
+
 use crate::range::Range;
 
 /// The terms of a source of jobs.
@@ -7,10 +10,13 @@ use crate::range::Range;
 pub struct SourceTerms {
     /// The server that is to run its jobs.
     pub server: u16,
-    /// The tick at which the first job is released.
+    /// The nominal tick of the first job.
     pub first: u64,
-    /// The ticks from one release to the next: 1 to 10^12.
+    /// The ticks from one nominal tick to the next: 1 to 10^12.
     pub every: Range,
+    /// By how many ticks a job may come later than its nominal tick: fewer than the least `every`,
+    /// and 0 for none. No job comes before the one before it of its source.
+    pub jitter: u64,
     /// How many units a job has: 1 to 1,000,000.
     pub units: Range,
     /// How many jobs the source releases at most, or `None` if it releases jobs until the simulation ends.
@@ -20,4 +26,14 @@ pub struct SourceTerms {
     pub within: Option<u64>,
     /// The ticks that each unit of a job takes beyond its first.
     pub overrun: Range,
+}
+
+impl SourceTerms {
+    /// Returns the least ticks from one release to the next: the least `every`, less the jitter. Of two jobs the earlier
+    /// may come late by the whole jitter, and the later at its nominal tick.
+    pub fn distance(&self) -> u64
+        ensures { result ≡ distance self.now }
+    {
+        self.every.least().saturating_sub(self.jitter)
+    }
 }

@@ -8,6 +8,7 @@ no_source = record {
   server = 0;
   first = 0;
   every = record { least = 0; greatest = 0 };
+  jitter = 0;
   units = record { least = 0; greatest = 0 };
   jobs = None;
   within = None;

@@ -77,6 +77,7 @@ fn is_same_source(one: SourceTerms, other: SourceTerms) -> bool
     one.server == other.server
         && one.first == other.first
         && is_same_range(one.every, other.every)
+        && one.jitter == other.jitter
         && is_same_range(one.units, other.units)
         && one.jobs == other.jobs
         && one.within == other.within

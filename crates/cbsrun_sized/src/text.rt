@@ -136,6 +136,9 @@ fn append_optional(
     if terms.first > 0 {
         append_time(text, "first", tick, terms.first)?;
     }
+    if terms.jitter > 0 {
+        append_time(text, "jitter", tick, terms.jitter)?;
+    }
     if let Some(jobs) = terms.jobs {
         append_number(text, "jobs", jobs)?;
     }

@@ -23,7 +23,7 @@ use Rattle.cbsrun_simulate.specs.Loading.{loading, job_of}
 use Rattle.cbsrun_simulate.specs.Merging.{merged}
 use Rattle.cbsrun_simulate.specs.MoveLaws.{AllMoves}
 use Rattle.cbsrun_simulate.specs.Moves.{Simulation, moves_of}
-use Rattle.cbsrun_simulate.specs.Released.{IsOfSource, least_every}
+use Rattle.cbsrun_simulate.specs.Released.{IsOfSource, least_distance}
 use Rattle.cbsrun_simulate.specs.declared.load_job.LoadJob.{LoadJob}
 use Rattle.cbsrun_simulate.specs.declared.release.Release.{Release}
 use Rattle.cbsrun_simulate.specs.declared.terms.SourceTerms.{SourceTerms}
@@ -101,7 +101,7 @@ module _ (f : LoadFile) (load : IsLoad f) (plan : IsPlan f.plan) (s within : ℕ
       (AllByRecursion-weaker (λ t. (held t.overrun.greatest ≡ source.overrun) × (t.overrun.greatest ≤ 1000000000)) (λ t. t.overrun.greatest ≤ source.overrun)
       (own s f.sources) all (λ t h. let a = h.0 in let b = h.1 in omega arith))
 
-  owned : AllByRecursion (λ r. r.server ≡ s → IsAloneRelease f.until load.few_ticks s released (least_every f.sources) (most_charged f.sources) source.units
+  owned : AllByRecursion (λ r. r.server ≡ s → IsAloneRelease f.until load.few_ticks s released (least_distance f.sources) (most_charged f.sources) source.units
       source.overrun source.every passed (delay_of f s) (IsOwnSource s f.sources) r) releases
   owned = AllByRecursion-weaker (IsOfSource f.until 0 f.sources) _ releases (releases_are f load)
       (λ r h same.
@@ -128,7 +128,7 @@ module _ (f : LoadFile) (load : IsLoad f) (plan : IsPlan f.plan) (s within : ℕ
       ap (λ xs. all_spans (streams_of rate xs)) one.only ∙ omega (arith, sum_by-cons (λ (x : Rate). x.budget) (stream_of rate source) []) in
       rw (reservation_at f.modes f.plan.rates s load.moded) (omega arith)
 
-  given : IsGivenAlone f.until load.few_ticks s released (least_every f.sources) (most_charged f.sources) source.units source.overrun source.every passed
+  given : IsGivenAlone f.until load.few_ticks s released (least_distance f.sources) (most_charged f.sources) source.units source.overrun source.every passed
       (delay_of f s) (IsOwnSource s f.sources) setup
   given =
       let early = AllByRecursion-weaker (IsOfSource f.until 0 f.sources) (λ r. r.tick < f.until) releases (releases_are f load) (λ r h. h.is.early) in
@@ -150,7 +150,7 @@ module _ (f : LoadFile) (load : IsLoad f) (plan : IsPlan f.plan) (s within : ℕ
   going : IsGoing loading job_of f.until load.few_ticks 0 sim
   going = record { early = omega arith; waited = omega arith; order = all_in_order f.until f.seed 0 f.sources; owed = λ lt c e. cc }
 
-  start : IsAloneKept f.until load.few_ticks s released (least_every f.sources) (most_charged f.sources) source.units source.overrun source.every passed
+  start : IsAloneKept f.until load.few_ticks s released (least_distance f.sources) (most_charged f.sources) source.units source.overrun source.every passed
       (delay_of f s) (IsOwnSource s f.sources) 0 sim
   start = record {
     going = going;
@@ -170,6 +170,6 @@ module _ (f : LoadFile) (load : IsLoad f) (plan : IsPlan f.plan) (s within : ℕ
 
   -- each move of the simulation keeps what is promised
   pub alone_load_kept : AllMoves loading job_of (IsKeptMove s released within) sim (moves_of loading job_of f.until sim)
-  alone_load_kept = rw time_is at (alone_moves f.until load.few_ticks s released (least_every f.sources) (most_charged f.sources) source.units source.overrun
+  alone_load_kept = rw time_is at (alone_moves f.until load.few_ticks s released (least_distance f.sources) (most_charged f.sources) source.units source.overrun
       source.every passed (delay_of f s) (IsOwnSource s f.sources) 0 sim (moves_of loading job_of f.until sim) given start
       (moves_are loading job_of f.until load.few_ticks 0 sim going).each)

@@ -29,7 +29,7 @@ use Rattle.cbsrun_simulate.specs.Loading.{loading, job_of}
 use Rattle.cbsrun_simulate.specs.Merging.{merged}
 use Rattle.cbsrun_simulate.specs.MoveLaws.{AllMoves}
 use Rattle.cbsrun_simulate.specs.Moves.{Simulation, moves_of}
-use Rattle.cbsrun_simulate.specs.Released.{HasRanges, IsOfSource, AreApart, least_every}
+use Rattle.cbsrun_simulate.specs.Released.{HasRanges, IsOfSource, AreApart, distance, least_distance}
 use Rattle.cbsrun_simulate.specs.declared.load_job.LoadJob.{LoadJob}
 use Rattle.cbsrun_simulate.specs.declared.release.Release.{Release}
 use Rattle.cbsrun_simulate.specs.declared.terms.SourceTerms.{SourceTerms}
@@ -92,9 +92,9 @@ module _ (f : LoadFile) (load : IsLoad f) where
   pub releases_are : AllByRecursion (IsOfSource f.until 0 f.sources) (merged (released_by_all 0 f.sources f.until f.seed))
   releases_are = merged_are f.until f.seed 0 f.sources drawable
 
-  pub releases_apart : AreApart (least_every f.sources) (merged (released_by_all 0 f.sources f.until f.seed))
-  releases_apart = merged_apart (least_every f.sources) f.until f.seed 0 f.sources drawable
-      (AllByRecursion-weaker (IsSource (length f.plan.rates)) (λ t. 0 < t.every.least) f.sources lawful_sources (λ t h. h.lawful.some_ticks))
+  pub releases_apart : AreApart (least_distance f.sources) (merged (released_by_all 0 f.sources f.until f.seed))
+  releases_apart = merged_apart (least_distance f.sources) f.until f.seed 0 f.sources drawable
+      (AllByRecursion-weaker (IsSource (length f.plan.rates)) (λ t. 0 < distance t) f.sources lawful_sources (λ t h. let little = h.lawful.little_jitter in omega arith))
       (λ j t e. let z : 0 + j ≡ j = omega arith in rw z (least_at f.sources j t e))
 
   pub overruns_within : AllByRecursion (λ r. r.overrun ≤ most_charged f.sources r.server) (merged (released_by_all 0 f.sources f.until f.seed))
@@ -163,7 +163,7 @@ module _ (f : LoadFile) (load : IsLoad f) (plan : IsPlan f.plan) (s within : ℕ
   ]
 
   -- a release of the server is one of a stream
-  owned : AllByRecursion (λ r. r.server ≡ s → IsOwn f.until load.few_ticks s released of place (least_every f.sources) (most_charged f.sources) rates passed
+  owned : AllByRecursion (λ r. r.server ≡ s → IsOwn f.until load.few_ticks s released of place (least_distance f.sources) (most_charged f.sources) rates passed
       (delay_of f s) (IsOwnSource s f.sources) setup r) releases
   owned = AllByRecursion-weaker (IsOfSource f.until 0 f.sources) _ releases (releases_are f load)
       (λ r h same.
@@ -188,7 +188,7 @@ module _ (f : LoadFile) (load : IsLoad f) (plan : IsPlan f.plan) (s within : ℕ
         distance = rw is (sym (least_at f.sources r.source t stands));
       })
 
-  given : IsGiven f.until load.few_ticks s released of place (least_every f.sources) (most_charged f.sources) rates passed (delay_of f s)
+  given : IsGiven f.until load.few_ticks s released of place (least_distance f.sources) (most_charged f.sources) rates passed (delay_of f s)
       (IsOwnSource s f.sources) setup
   given =
       let early = AllByRecursion-weaker (IsOfSource f.until 0 f.sources) (λ r. r.tick < f.until) releases (releases_are f load) (λ r h. h.is.early) in
@@ -209,7 +209,7 @@ module _ (f : LoadFile) (load : IsLoad f) (plan : IsPlan f.plan) (s within : ℕ
   going : IsGoing loading job_of f.until load.few_ticks 0 sim
   going = record { early = omega arith; waited = omega arith; order = all_in_order f.until f.seed 0 f.sources; owed = λ lt c e. cc }
 
-  start : IsKept f.until load.few_ticks s released of place (least_every f.sources) (most_charged f.sources) rates passed (delay_of f s)
+  start : IsKept f.until load.few_ticks s released of place (least_distance f.sources) (most_charged f.sources) rates passed (delay_of f s)
       (IsOwnSource s f.sources) 0 sim
   start = record {
     going = going;
@@ -230,5 +230,5 @@ module _ (f : LoadFile) (load : IsLoad f) (plan : IsPlan f.plan) (s within : ℕ
   load_kept =
       let time = promised.time in
       let sum : all_spans rates + delay_of f s + passed ≡ within = omega arith in
-      rw sum at (kept_moves f.until load.few_ticks s released of place (least_every f.sources) (most_charged f.sources) rates passed (delay_of f s)
+      rw sum at (kept_moves f.until load.few_ticks s released of place (least_distance f.sources) (most_charged f.sources) rates passed (delay_of f s)
       (IsOwnSource s f.sources) 0 sim (moves_of loading job_of f.until sim) given start (moves_are loading job_of f.until load.few_ticks 0 sim going).each)

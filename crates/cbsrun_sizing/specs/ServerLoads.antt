@@ -1,6 +1,6 @@
 -- The demand of the sources of each server of a load, and within how many ticks their jobs are finished.
-use Rattle.std.specs.Prelude.{◌≡◌, ℕ, ◌+◌, ◌-◌, ◌<◌, eqb, if◌then◌else◌, min, max, List, length, map, get_or, MatchOption, MatchResult, Option, Some, None, Ok, All, ◌≤◌}
-use Rattle.std.specs.List.{sum, filter, fold, range_with_len}
+use Rattle.std.specs.Prelude.{◌≡◌, ℕ, ◌+◌, ◌-◌, ◌<◌, ◌&&◌, Bool, false, not, eqb, if◌then◌else◌, min, max, List, length, map, get_or, MatchOption, MatchResult, Option, Some, None, Ok, All, ◌≤◌}
+use Rattle.std.specs.List.{sum, filter, fold, list_any, range_with_len}
 use Rattle.cbs_rate.specs.Limits.{greatest_number, longest_period}
 use Rattle.cbs_rate.specs.Plan.{Planned, IsGreatestBudget}
 use Rattle.cbs_rate.specs.Rate.{Rate}
@@ -13,6 +13,7 @@ use Rattle.cbsrun_proposals.specs.Proposals.{IsEnough, IsRemedy}
 use Rattle.cbsrun_proposals.specs.declared.remedy.Proposal.{Proposal}
 use Rattle.cbsrun_proposals.specs.declared.remedy.Remedy.{Remedy}
 use Rattle.cbsrun_proposals.specs.declared.wanted.Wanted.{Wanted}
+use Rattle.cbsrun_simulate.specs.Released.{distance}
 use Rattle.cbsrun_simulate.specs.declared.terms.SourceTerms.{SourceTerms}
 use Rattle.cbsrun_sizing.specs.Asked.{IsAsked, AreTooFine}
 use Rattle.cbsrun_sizing.specs.Budgets.{without}
@@ -26,10 +27,10 @@ held n = min n greatest_number
 abbrev pub AreShort : List SourceTerms → Type 0
 AreShort sources = All (λ t. t.overrun.greatest ≤ longest_period) sources
 
--- a source at its greatest demand: the most units, the least ticks from one job to the next, and the greatest overrun
--- of a unit
+-- a source at its greatest demand: the most units, the least ticks from one job to the next, by its jitter too, and the
+-- greatest overrun of a unit
 abbrev pub at_most : SourceTerms → Source
-at_most t = record { units = held t.units.greatest; every = t.every.least; overrun = held t.overrun.greatest }
+at_most t = record { units = held t.units.greatest; every = distance t; overrun = held t.overrun.greatest }
 
 -- the sources of server s, each at its greatest demand
 abbrev pub sources_of : ℕ → List SourceTerms → List Source
@@ -90,13 +91,28 @@ abbrev pub proposed : Option Remedy → Option Proposal
 proposed None = None
 proposed (Some m) = m.reservation
 
+-- so many ticks are wanted
+abbrev pub is_wanted : ℕ → Option ℕ → Bool
+is_wanted n None = false
+is_wanted n (Some within) = eqb within n
+
+-- a source of server s wants its jobs finished within so many ticks
+abbrev pub wants : List SourceTerms → ℕ → ℕ → Bool
+wants sources s n = list_any (λ t. eqb t.server s && is_wanted n t.within) sources
+
+-- The period of server s, if a source of it wants its jobs finished within that period, and a proposal has another. A
+-- source that says nothing wants its jobs within the period of its server, so it has to say this with the proposal
+abbrev pub kept_within : List SourceTerms → ℕ → ℕ → Option Proposal → Option ℕ
+kept_within sources s period None = None
+kept_within sources s period (Some p) = if not (eqb p.period period) && wants sources s period then Some period else None
+
 -- the greatest budget that fits at the period of a proposal beside all servers but s, and 0 if there is no proposal
 abbrev pub IsRoomFor : Planned → ℕ → Option Proposal → ℕ → Type 0
 IsRoomFor plan s proposal room = MatchOption proposal (room ≡ 0) (λ p. IsGreatestBudget (without plan s) p.period room)
 
 -- The figures of server s. `asked` is the demand of its sources, if that can be summed. `promised` is within how many
 -- ticks of its release each of their jobs is finished, or why that is not promised. `remedy` is what would do, if its
--- reservation does not, and `room` what fits at the remedy's period.
+-- reservation does not, `kept` which `within` has to be said with it, and `room` what fits at the remedy's period.
 pub record IsServerLoad (f : LoadFile) (s : ℕ) (l : ServerLoad) : Type 0 where
   pub asked : let own = sources_of s f.sources in MatchOption l.asked (AreTooFine own) (IsAsked own)
   pub promised : let own = sources_of s f.sources in
@@ -104,11 +120,12 @@ pub record IsServerLoad (f : LoadFile) (s : ℕ) (l : ServerLoad) : Type 0 where
       (IsReason (rate_at f.plan.rates s) own (delay_from_release f s) f.backlog)
   pub remedy : let own = sources_of s f.sources in
       MatchOption l.remedy (IsEnough own (wanted_of f s) (rate_at f.plan.rates s)) (IsRemedy own (wanted_of f s) (rate_at f.plan.rates s))
+  pub kept : l.kept ≡ kept_within f.sources s (rate_at f.plan.rates s).period (proposed l.remedy)
   pub room : IsRoomFor f.plan s (proposed l.remedy) l.room
 
 -- what stands for a server that does not exist
 abbrev pub no_load : ServerLoad
-no_load = record { asked = None; promised = Ok 0; remedy = None; room = 0 }
+no_load = record { asked = None; promised = Ok 0; remedy = None; kept = None; room = 0 }
 
 -- the figures of each of the first n servers
 pub record AreServerLoads (f : LoadFile) (n : ℕ) (loads : List ServerLoad) : Type 0 where

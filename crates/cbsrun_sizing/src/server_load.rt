@@ -4,7 +4,7 @@ ghost use Rattle.std.specs.Prelude.{◌≡◌, ℕ, ◌*◌, ◌≤◌, ◌<◌,
 ghost use Rattle.cbs_rate.specs.Limits.{longest_period};
 ghost use Rattle.cbs_guarantee.specs.Sources.{IsPromised, IsReason};
 ghost use Rattle.cbsrun_proposals.specs.Proposals.{IsProposal};
-ghost use Rattle.cbsrun_sizing.specs.ServerLoads.{every_tick, held, at_most, sources_of, most_charged, all_charges, most_passed, lesser, least_within, wanted_by, wanted_in, wanted_of, proposed, AreShort, IsRoomFor, IsServerLoad, AreServerLoads};
+ghost use Rattle.cbsrun_sizing.specs.ServerLoads.{every_tick, held, at_most, sources_of, most_charged, all_charges, most_passed, lesser, least_within, wanted_by, wanted_in, wanted_of, is_wanted, kept_within, wants, proposed, AreShort, IsRoomFor, IsServerLoad, AreServerLoads};
 
 use crate::asked::{Asked, asked_by};
 use crate::budgets::greatest_budget_at;
@@ -26,6 +26,10 @@ pub struct ServerLoad {
     pub promised: Result<u64, NotPromised>,
     /// What would do, if the jobs are not promised within the ticks that each source wants.
     pub remedy: Option<Remedy>,
+    /// The period of the server, if a source of it wants its jobs finished within that period, and the remedy's
+    /// reservation has another. A source that says no `within` follows the period of its server, so it has to say this
+    /// number with that reservation.
+    pub kept: Option<u64>,
     /// The greatest budget that fits at the period of the remedy's reservation, beside all other servers, or 0 if there is
     /// no such reservation.
     pub room: u64,
@@ -44,7 +48,7 @@ fn at_most(terms: &SourceTerms) -> Source
 {
     Source {
         units: held(terms.units.greatest()),
-        every: terms.every.least(),
+        every: terms.distance(),
         overrun: held(terms.overrun.greatest()),
     }
 }
@@ -202,6 +206,40 @@ fn proposed(remedy: Option<Remedy>) -> Option<Proposal>
     }
 }
 
+/// Returns whether so many ticks are wanted.
+fn is_wanted(ticks: u64, within: Option<u64>) -> bool
+    ensures { result ≡ is_wanted ticks within }
+{
+    match within {
+        Some(within) => within == ticks,
+        None => false,
+    }
+}
+
+/// Returns whether a source of the server wants its jobs finished within so many ticks.
+fn wants(sources: &[SourceTerms], server: u16, ticks: u64) -> bool
+    ensures { result ≡ wants sources.now server ticks }
+{
+    sources.iter().any(|terms| terms.server == server && is_wanted(ticks, terms.within))
+}
+
+/// Returns the period of a server, if a source of it wants its jobs finished within that period, and a proposal has another.
+fn kept_within(
+    sources: &[SourceTerms],
+    server: u16,
+    period: u64,
+    proposal: Option<Proposal>,
+) -> Option<u64>
+    ensures { result ≡ kept_within sources.now server period proposal }
+{
+    match proposal {
+        Some(proposal) if proposal.period != period && wants(sources, server, period) => {
+            Some(period)
+        }
+        _ => None,
+    }
+}
+
 /// Returns the greatest budget that fits at the period of a proposal, beside all other servers of a plan, or 0 if there
 /// is no proposal.
 fn room_for(plan: &Plan, server: u16, proposal: Option<Proposal>) -> u64
@@ -252,6 +290,12 @@ fn server_load(
         asked: asked_by(&own),
         promised: guaranteed(reservation, &own, wanted.delay, wanted.backlog),
         remedy,
+        kept: kept_within(
+            load.sources(),
+            server,
+            reservation.period(),
+            proposed(remedy),
+        ),
         room: room_for(load.plan(), server, proposed(remedy)),
     })
 }

@@ -5,7 +5,7 @@ use Rattle.std.specs.Prelude.{ℕ, eqb, ◌*◌, ◌/◌, ◌%◌, if◌then◌e
 abbrev pub places : List ℕ
 places = 100000 ∷ 10000 ∷ 1000 ∷ 100 ∷ 10 ∷ 1 ∷ []
 
--- the digits of a part, place by place, up to the last that is not 0
+-- the digits of a part of a millisecond, fewer than 10^6 nanoseconds, place by place, up to the last that is not 0
 unfoldable pub part_digits : List ℕ → ℕ → List ℕ
 part_digits [] part = []
 part_digits (place ∷ more) part = if eqb part 0 then [] else decimal (part / place) ++ part_digits more (part % place)
@@ -40,6 +40,6 @@ abbrev pub ticks_text : Option ℕ → ℕ → List ℕ
 ticks_text None ticks = decimal ticks ++ codes " ticks"
 ticks_text (Some tick) ticks = milliseconds_text tick ticks ++ codes " ms"
 
--- so many parts of a tick, of which these make up one, in milliseconds for a table
+-- `parts` parts of a tick, of which `of` make up one tick, in milliseconds for a table
 abbrev pub part_text : ℕ → ℕ → ℕ → List ℕ
 part_text tick parts of = nanoseconds_text (tick * parts / of) ++ codes " ms"

@@ -9,7 +9,8 @@ use std::alloc::AllocError;
 /// The nanoseconds of each place after the point of a number of milliseconds.
 const PLACES: [u64; 6] = [100_000, 10_000, 1_000, 100, 10, 1];
 
-/// Appends the digits of a part, place by place, up to the last that is not 0.
+/// Appends the digits of a part of a millisecond, fewer than 10^6 nanoseconds, place by place, up to the last that is not
+/// 0.
 fn append_digits(text: &mut String, part: u64) -> Result<(), AllocError>
     ensures { OnOk result (string_bytes text.new ≡ string_bytes text.old ++ part_digits places part) }
 {

@@ -30,7 +30,7 @@ abbrev pub is_up : Rounding → Bool
 is_up Up = true
 is_up _ = false
 
--- so many units in ticks. What is rounded up is work, and no frequency
+-- so many units in ticks. No frequency is rounded up
 abbrev pub units_in_ticks : ℕ → Rounding → Decimal → Unit → Option ℕ
 units_in_ticks tick rounding count unit =
     if is_frequency unit && is_up rounding then None else in_ticks tick rounding (length_in unit count)

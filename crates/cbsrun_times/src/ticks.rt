@@ -15,9 +15,10 @@ pub const MOST_TICKS: u64 = 1_000_000_000_000;
 /// What becomes of a time that is no whole number of ticks.
 #[derive(Clone, Copy, Debug, PartialEq, Eq)]
 pub enum Rounding {
-    /// It is the next greater number: for work.
+    /// It is the next greater number: for work, budgets and the end of a simulation.
     Up,
-    /// It is the next lesser number: for the time between jobs, and the time within which they are wanted.
+    /// It is the next lesser number: for the first release, the time between jobs, and the time within which they are
+    /// wanted.
     Down,
     /// It is refused: for periods.
     Whole,
@@ -48,12 +49,14 @@ fn few(ticks: u128) -> Option<u64>
     }
 }
 
-/// Returns how many ticks a time is, by the nanoseconds of a tick.
+/// Returns how many ticks a time is, 0 to [`MOST_TICKS`]. `tick` is the length of a tick in nanoseconds.
 ///
-/// A time is a number, a space and a unit: `s`, `ms`, `us` or `ns`. The number has up to 9 digits before a decimal point,
-/// and up to 9 after it. It may be a frequency, in `Hz` or `kHz`, which stands for the time from one to the next; that
-/// of work is no time, so one that is rounded up is none. Returns `None` for any other text, for a time of more than
-/// [`MOST_TICKS`] ticks, for one that is no whole number of ticks and has to be whole, and if a tick or a frequency is 0.
+/// A time is a number, a space and a unit: `s`, `ms`, `us` or `ns`. The number has 1 to 9 digits before a decimal point,
+/// and 1 to 9 after it, if there is one. A text may also tell a frequency, in `Hz` or `kHz`. It stands for the time from
+/// one event to the next, and is refused if it is to be rounded up.
+///
+/// Returns `None` for any other text, and for more than [`MOST_TICKS`] ticks. Returns `None` if a time has to be a whole
+/// number of ticks and is not. Returns `None` if `tick` or the frequency is 0.
 #[tactic(auto, unfolding(crate::specs::Ticks::ticks_of))]
 pub fn ticks_of(tick: u64, rounding: Rounding, text: &str) -> Option<u64>
     ensures value { result ≡ ticks_of tick rounding text.now }

@@ -22,7 +22,7 @@ const LIDAR: &str =
 
 /// A source with all keys.
 const FULL: &str =
-    "[[source]]\nserver = \"lidar-2\"\nfirst = 3\nevery = [4, 12]\nunits = [1, 5]\njobs = 7\nwithin = 20\noverrun = [0, 2]\n";
+    "[[source]]\nserver = \"lidar-2\"\nfirst = 3\nevery = [4, 12]\nunits = [1, 5]\njobs = 7\nwithin = 20\noverrun = [0, 2]\njitter = 3\n";
 
 /// A source without the keys that may be left out.
 const BARE: &str = "[[source]]\nserver = \"control\"\nevery = 5\nunits = 1\n";
@@ -65,6 +65,7 @@ fn a_load_holds_what_its_file_says(rt: HostRuntime) {
         server: 0,
         first: 0,
         every: Range::fixed(5),
+        jitter: 0,
         units: Range::fixed(1),
         jobs: None,
         within: Some(5),
@@ -74,6 +75,7 @@ fn a_load_holds_what_its_file_says(rt: HostRuntime) {
         server: 1,
         first: 3,
         every: range(&rt, 4, 12),
+        jitter: 3,
         units: range(&rt, 1, 5),
         jobs: Some(7),
         within: Some(20),

@@ -5,9 +5,9 @@ ghost use Rattle.std.specs.Prelude.{◌≡◌};
 use super::fakes::{Memory, Outcome};
 use super::same;
 use cbsrun_commands::{
-    Changes, Drawing, Form, LoadReport, NoProgress, Window, check_bytes_within, draw_load_within,
-    draw_tasks_within, report_bytes_within, simulate_bytes_within, simulate_jobs_within,
-    simulate_lines_within,
+    Changes, Drawing, Form, LoadReport, LoadSweep, NoProgress, Seeds, SweepForm, Window,
+    check_bytes_within, draw_load_within, draw_tasks_within, report_bytes_within,
+    simulate_bytes_within, simulate_jobs_within, simulate_lines_within, sweep_bytes_within,
 };
 use std::alloc::Global;
 use std::process::Abort;
@@ -77,6 +77,7 @@ enum Asked {
     ReportLoad { form: Form, strict: bool },
     WriteLoadLines,
     WriteLoadJobs,
+    SweepLoad,
     ReportTasks(Form),
     DrawLoad(Drawing, Window),
     DrawTasks(Drawing, Window),
@@ -86,6 +87,14 @@ enum Asked {
 const NONE: Changes = Changes {
     seed: None,
     until: None,
+};
+
+/// Three runs of a load.
+const SWEEP: LoadSweep = LoadSweep {
+    form: SweepForm::Report,
+    seeds: Seeds { first: 3, last: 5 },
+    changes: NONE,
+    strict: true,
 };
 
 /// Prints what is asked of a file to `out`. The file may need `memory` bytes of memory. Returns the outcome.
@@ -128,6 +137,9 @@ fn printed(alloc: Global, asked: Asked, memory: u64, file: &str, mut out: Memory
             &mut out,
             &mut err,
         ),
+        Asked::SweepLoad => {
+            sweep_bytes_within(alloc, memory, SWEEP, name, bytes, &mut out, &mut err)
+        }
         Asked::ReportTasks(form) => {
             report_bytes_within(alloc, memory, form, name, bytes, &mut out, &mut err)
         }
@@ -160,7 +172,7 @@ type Printed = (Asked, &'static str, [&'static str; 3]);
 
 /// What is asked beside drawings. The whole answers are in `tests/checks.txt` and `tests/reports.txt`, at the top of the
 /// repository.
-const PRINTED: [Printed; 9] = [
+const PRINTED: [Printed; 10] = [
     (
         Asked::Check {
             form: Form::Report,
@@ -200,6 +212,11 @@ const PRINTED: [Printed; 9] = [
         },
         TASKS,
         ["{", "\"name\":\"server 0\"", "}\n"],
+    ),
+    (
+        Asked::SweepLoad,
+        LOAD,
+        ["a.toml, 3 runs", "RUNS", "1        3\n"],
     ),
     (
         Asked::WriteLoadJobs,
@@ -326,6 +343,7 @@ fn a_strict_answer_is_not_told_by_a_closed_pipe(rt: HostRuntime) {
             "fits:",
         ),
         (Asked::ReportLoad { form, strict: true }, "in ti"),
+        (Asked::SweepLoad, "a.tom"),
     ] {
         let pipe = Memory::pipe(alloc, 5);
         let fault = "cbsrun: run fault 2 WriteFault\n";
@@ -376,6 +394,7 @@ fn a_fault_is_explained_if_there_is_memory(rt: HostRuntime) {
         ),
         (Asked::WriteLoadLines, load),
         (Asked::WriteLoadJobs, load),
+        (Asked::SweepLoad, load),
         (Asked::ReportTasks(Form::Report), tasks),
         (Asked::DrawLoad(Drawing::Text, some), load),
         (Asked::DrawTasks(Drawing::Svg, some), tasks),

@@ -49,6 +49,7 @@ fn source(server: u16, first: u64, every: u64, units: u32, jobs: u64, overrun: u
         server,
         first,
         every: Range::fixed(every),
+        jitter: 0,
         units: Range::fixed(u64::from(units)),
         jobs: Some(jobs),
         within: None,
@@ -251,6 +252,21 @@ fn take<R: Releases>(releases: &mut R) -> Option<Release> {
     Some(release)
 }
 
+/// Tests that a source at place 54, for server 3, releases these next: each with its tick, its units and its overrun.
+fn releases(rt: &impl Abort, source: &mut Source, rows: &[(u64, u32, u64)]) {
+    for (tick, units, overrun) in rows {
+        let release = Release {
+            tick: *tick,
+            source: 54,
+            server: 3,
+            units: *units,
+            overrun: *overrun,
+            within: None,
+        };
+        same(rt, "a release", take(source), Some(release));
+    }
+}
+
 // The same words, as a source at place 54 draws them with the seed 42: units, overrun, and ticks to the next job.
 #[test]
 fn drawn_releases(rt: HostRuntime) {
@@ -258,6 +274,7 @@ fn drawn_releases(rt: HostRuntime) {
         server: 3,
         first: 5,
         every: Range::new(1, 1_000_000_000_000).expect(&rt, "every"),
+        jitter: 0,
         units: Range::new(1, 1_000_000).expect(&rt, "units"),
         jobs: None,
         within: None,
@@ -268,16 +285,33 @@ fn drawn_releases(rt: HostRuntime) {
         (5, 526_152, 74_289_934),
         (638_291_276_544, 972_795, 782_648_078),
     ];
-    for (tick, units, overrun) in rows {
-        let release = Release {
-            tick,
-            source: 54,
-            server: 3,
-            units,
-            overrun,
-            within: None,
-        };
-        let next = take(&mut source);
-        same(&rt, "a release", next, Some(release));
-    }
+    releases(&rt, &mut source, &rows);
+}
+
+// The same generator, with a jitter: units, overrun, by how much a job comes later, and ticks to the next nominal tick.
+// Another program drew these. The nominal ticks are 5, 65, 121, 162, 210, 255 and 311.
+#[test]
+fn drawn_releases_with_a_jitter(rt: HostRuntime) {
+    let terms = SourceTerms {
+        server: 3,
+        first: 5,
+        every: Range::new(40, 60).expect(&rt, "every"),
+        jitter: 25,
+        units: Range::new(1, 9).expect(&rt, "units"),
+        jobs: None,
+        within: None,
+        overrun: Range::new(0, 3).expect(&rt, "overrun"),
+    };
+    let mut source = Source::new(54, &terms, 320, 42);
+    let rows = [
+        (21, 5, 0),
+        (77, 8, 1),
+        (122, 5, 2),
+        (173, 4, 3),
+        (213, 2, 1),
+        (275, 1, 2),
+        (316, 7, 0),
+    ];
+    releases(&rt, &mut source, &rows);
+    same(&rt, "the end", source.first(), None);
 }

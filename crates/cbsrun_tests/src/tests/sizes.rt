@@ -60,21 +60,28 @@ fn numbers_of_a_robot(rt: HostRuntime) {
         .expect(&rt, "memory");
     assert!(rt; budgets[..] == [3, 14, 5]);
     let loads = server_loads(alloc, &load).ok().expect(&rt, "memory");
-    // the others are charged 7 ticks, and a charge passes a release by 7: longer than any of them wants to wait
+    // the others are charged 7 ticks, and a charge passes a release by 7: longer than control wants to wait
     let none = Remedy {
         backlog: None,
         reservation: None,
+        delayed: None,
+    };
+    let delayed = Remedy {
+        delayed: Some(14),
+        ..none
     };
     let control = ServerLoad {
         asked: Some(Asked { ticks: 1, of: 12 }),
         promised: Ok(19),
-        remedy: Some(none),
+        remedy: Some(delayed),
+        kept: None,
         room: 0,
     };
     let vision = ServerLoad {
         asked: Some(Asked { ticks: 30, of: 120 }),
         promised: Ok(54),
         remedy: Some(none),
+        kept: None,
         room: 0,
     };
     // 5 units of 8 ticks, every 4 ticks
@@ -82,6 +89,7 @@ fn numbers_of_a_robot(rt: HostRuntime) {
         asked: Some(Asked { ticks: 40, of: 4 }),
         promised: Err(NotPromised::AsksTooMuch),
         remedy: Some(none),
+        kept: None,
         room: 0,
     };
     assert!(rt; loads[..] == [control, vision, logging]);
@@ -199,7 +207,9 @@ fn remedies(rt: HostRuntime) {
                 budget: 30,
                 period: 50,
             }),
+            delayed: None,
         }),
+        kept: None,
         room: 45,
     };
     // a job of each source may be unfinished, whatever the reservation
@@ -209,8 +219,71 @@ fn remedies(rt: HostRuntime) {
         remedy: Some(Remedy {
             backlog: Some(2),
             reservation: None,
+            delayed: None,
         }),
+        kept: None,
         room: 0,
     };
     assert!(rt; loads[..] == [batches, twice]);
+}
+
+/// Two servers. The source of the second says no `within`, and the first may delay it.
+const FOLLOWS: &str = "\
+load = 1
+bound = [1, 1]
+backlog = 4
+until = 200
+[[server]]
+name = \"noise\"
+mode = \"soft\"
+budget = 4
+period = 20
+[[source]]
+server = \"noise\"
+every = 20
+units = 1
+overrun = 1
+[[server]]
+name = \"slow\"
+mode = \"soft\"
+budget = 4
+period = 20
+[[source]]
+server = \"slow\"
+every = 20
+units = 4
+";
+
+#[test]
+fn a_remedy_with_another_period_keeps_within(rt: HostRuntime) {
+    let alloc = rt.alloc();
+    let load = read_load(alloc, FOLLOWS.as_bytes())
+        .ok()
+        .expect(&rt, "a load");
+    let loads = server_loads(alloc, &load).ok().expect(&rt, "memory");
+    // a unit of 2 ticks, in one period, before the next comes
+    let noise = ServerLoad {
+        asked: Some(Asked { ticks: 2, of: 20 }),
+        promised: Ok(20),
+        remedy: None,
+        kept: None,
+        room: 0,
+    };
+    // noise is charged a tick, and that may pass a release: 20 + 2 ticks. With a period of 18 they are the wanted 20, which
+    // the source then has to say. Of 18 ticks noise has 3.6.
+    let slow = ServerLoad {
+        asked: Some(Asked { ticks: 4, of: 20 }),
+        promised: Ok(22),
+        remedy: Some(Remedy {
+            backlog: None,
+            reservation: Some(Proposal {
+                budget: 4,
+                period: 18,
+            }),
+            delayed: None,
+        }),
+        kept: Some(20),
+        room: 14,
+    };
+    assert!(rt; loads[..] == [noise, slow]);
 }

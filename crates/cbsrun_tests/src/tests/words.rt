@@ -3,7 +3,8 @@
 
 use super::same;
 use cbsrun_commands::{
-    Action, Changes, Drawing, Form, LoadReport, Verb, Window, WordsFault, read_words,
+    Action, Changes, Drawing, Form, LoadReport, LoadSweep, Seeds, SweepForm, Verb, Window,
+    WordsFault, read_words,
 };
 use std::alloc::Global;
 use std::process::Abort;
@@ -175,7 +176,31 @@ const GREATEST: Changes = Changes {
 };
 
 /// Command lines whose options change a load, or have the status tell the answer.
-const CHANGED: [(&str, Action); 5] = [
+const CHANGED: [(&str, Action); 7] = [
+    (
+        "cbsrun simulate --seeds 1..1000 --as csv --until 9 a.toml",
+        Action::SweepLoad(LoadSweep {
+            form: SweepForm::Csv,
+            seeds: Seeds {
+                first: 1,
+                last: 1000,
+            },
+            changes: Changes {
+                seed: None,
+                until: Some(9),
+            },
+            strict: false,
+        }),
+    ),
+    (
+        "cbsrun simulate a.toml --seeds=7..7 --strict",
+        Action::SweepLoad(LoadSweep {
+            form: SweepForm::Report,
+            seeds: Seeds { first: 7, last: 7 },
+            changes: NONE,
+            strict: true,
+        }),
+    ),
     (
         "cbsrun simulate --seed 9223372036854775807 --until=1000000000000 --strict a.toml",
         Action::ReportLoad(LoadReport {

@@ -1,6 +1,6 @@
 use Rattle.serde_json.specs.View.{view}
 use Rattle.cbsrun_check_json.specs.Json.{server_at}
-use Rattle.cbsrun_check_json.proofs.Listed.{mapped_more}
+use Rattle.cbsrun_json.proofs.Listed.{mapped_more}
 use Rattle.cbsrun_check_json.proofs.json.servers_values.Goals as goal
 
 pub loop-server-preserved : goal.loop-server-preserved

@@ -1,7 +1,7 @@
 use Rattle.std.proofs.Common.{◌≡◌, ◌<◌, ap, ◌∙◌, get_or, length}
 use Rattle.serde_json.specs.View.{view}
 use Rattle.cbsrun_check_json.specs.Json.{source_of}
-use Rattle.cbsrun_check_json.proofs.Listed.{listed_more}
+use Rattle.cbsrun_json.proofs.Listed.{listed_more}
 use Rattle.cbsrun_check_json.proofs.json.sources_values.Goals as goal
 
 pub source_of-requires : goal.source_of-requires

@@ -6,9 +6,10 @@ use Rattle.cbsrun_check_text.proofs.lateness.append_made_up.Goals as goal
 
 pub returns : goal.returns
 unfolding made_up_text
-returns c = pushed c.push_str.result _ (string_bytes c.append_fraction.new.text) (codes " of the time is free.\n") _ c.push_str.ensures.bytes (simp (
+returns c = pushed c.push_str-2.result _ (string_bytes c.append_fraction.new.text) (codes " of the time is free.\n") _ c.push_str-2.ensures.bytes (simp (
   c.in_ok-append_fraction.ensures,
-  c.in_ok-append_pair.ensures,
+  c.in_ok-append_great.ensures,
+  c.in_ok-push_str.ensures.bytes,
   c.saturating_sub-free.ensures,
   c.from.ensures,
   c.from-2.ensures,

@@ -11,4 +11,4 @@ returns c =
     let some : 0 < length (not_in_time servers) = omega (arith, c.count_wrong.ensures) in
     let all = take_all c.loop-server.server-index servers c.loop-server-test.false in
     c.loop-server.invariant ∙ ap (λ t. string_bytes c.args.text.now ++ t)
-    (ap (λ ss. codes "\n" ++ flat_map (note_if_wrong c.args.tick c.args.clock) ss) all ∙ sym (notes_are c.args.tick c.args.clock servers some))
+    (ap (λ ss. codes "\n" ++ flat_map (note_if_wrong c.args.tick c.args.clock servers) ss) all ∙ sym (notes_are c.args.tick c.args.clock servers some))

@@ -1,4 +1,5 @@
-use Rattle.std.proofs.Common.{◌≡◌, sym, ◌∙◌, length}
+use Rattle.std.proofs.Common.{◌≡◌, ap, sym, ◌∙◌, length}
+use Rattle.cbs_rate.specs.Rate.{Rate}
 use Rattle.std.proofs.lemmas.Option.{get_or_from_slice_get}
 use Rattle.cbs_guarantee.specs.Parts.{rate_at}
 use Rattle.cbsrun_sizing.proofs.OwnSources.{own_ticks}
@@ -19,5 +20,6 @@ returns c =
       asked = rw (c.deref-2.ensures.value, c.in_ok-own.ensures.value, c.sources.ensures.value) at c.asked_by.ensures;
       promised = rw (is, c.deref-3.ensures.value, c.in_ok-own.ensures.value, c.sources.ensures.value, c.wanted_of-wanted.ensures) at c.guaranteed.ensures;
       remedy = rw (is, c.deref.ensures.value, c.in_ok-own.ensures.value, c.sources.ensures.value, c.wanted_of-wanted.ensures) at c.remedy_for-remedy.ensures;
-      room = rw (c.proposed.ensures, c.plan-2.ensures) at c.room_for.ensures;
+      kept = rw (c.period.ensures.value ∙ ap (λ (r : Rate). r.period) is, c.proposed.ensures, c.sources-2.ensures.value) at c.kept_within.ensures;
+      room = rw (c.proposed-2.ensures, c.plan-2.ensures) at c.room_for.ensures;
     }

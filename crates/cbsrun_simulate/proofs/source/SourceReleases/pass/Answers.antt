@@ -1,7 +1,17 @@
-use Rattle.cbsrun_simulate.proofs.Sources.{source_passed}
+use Rattle.std.proofs.Common.{ap, arith}
+use Rattle.cbsrun_simulate.specs.Bounds.{Bounds}
+use Rattle.cbsrun_simulate.proofs.Sources.{next_early, source_passed}
 use Rattle.cbsrun_simulate.proofs.source.SourceReleases.pass.Goals as goal
 
+pub overflow_add-self-inside : goal.overflow_add-self-inside
+overflow_add-self-inside c =
+    let most = ap (λ (r : Bounds). r.greatest) c.up_to.ensures in
+    let early = next_early _ c.args.self.now c.self.view_is c.requires in
+    let lawful = c.self.invariant.0 in
+    omega (arith, lawful.few_ticks, lawful.little_jitter)
+
 pub returns : goal.returns
-returns c = source_passed _ c.args.self.now c.draw.result c.draw-2.result c.draw-self-inside.result c.draw.new.draws c.draw-2.new.draws
-    c.draw-self-inside.new.draws
-    c.self.view_is c.requires c.draw.ensures.value c.draw-2.ensures.value c.draw-self-inside.ensures.value
+returns c = rw c.max-self-inside.ensures
+    (source_passed _ c.args.self.now c.draw.result c.draw-2.result c.draw-self-inside.result c.draw-jitter.result c.draw.new.draws c.draw-2.new.draws
+    c.draw-self-inside.new.draws c.draw-jitter.new.draws
+    c.self.view_is c.requires c.draw.ensures.value c.draw-2.ensures.value c.draw-self-inside.ensures.value (rw c.up_to.ensures at c.draw-jitter.ensures.value))

@@ -1,0 +1,4 @@
+pub mod Csv
+pub mod Json
+pub mod Tables
+pub mod Texts
