@@ -31,6 +31,10 @@ above_small word count small some =
     let below : word * count < count * 2 ^ 64 = omega (arith, less) in
     (div-lt_iff_lt-mul {k = 2 ^ 64} {x = word * count} {y = count} (omega arith)).1 below
 
+-- no number of a range is less than the least
+pub drawn_least : (r : Bounds) (g : Lcg) → r.least ≤ (drawn r g).0
+drawn_least r g = elim (cases_Bool (ltb r.least r.greatest)) [ inl t ↦ rw t (omega arith) | inr f ↦ rw f (omega arith) ]
+
 -- no number of a range is less than the least or greater than the greatest
 pub drawn_within : (r : Bounds) (g : Lcg) → r.least ≤ r.greatest → (r.least ≤ (drawn r g).0) × ((drawn r g).0 ≤ r.greatest)
 drawn_within r g order = elim (cases_Bool (ltb r.least r.greatest)) [

@@ -11,6 +11,7 @@ pub mod Merging
 pub mod FirstTurns
 pub mod MergedTurns
 pub mod MoveSteps
+pub mod Nominal
 pub mod Owing
 pub mod Simulations
 pub mod Sources

@@ -8,7 +8,7 @@ use Rattle.std.proofs.lemmas.Bool.{cases_Bool}
 use Rattle.std.proofs.lemmas.Bool.Decides.{nat_tests}
 use Rattle.cbsrun_simulate.specs.Releases.{IsInOrder}
 use Rattle.rand_pcg.specs.Lcg.{Lcg}
-use Rattle.cbsrun_simulate.specs.Drawing.{Cursor, drawn, up_to, release_of, released, pending, pending_from}
+use Rattle.cbsrun_simulate.specs.Drawing.{Cursor, drawn, up_to, release_of, next_nominal, released, pending, pending_from}
 use Rattle.cbsrun_simulate.specs.declared.terms.SourceTerms.{SourceTerms}
 
 -- a release, put before the first one whose tick is not earlier
@@ -70,27 +70,28 @@ one_ordered : (until : ℕ) (r : Release) (rs : List Release) → IsInOrder r.ti
 one_ordered until r rs order = elim (cases_Bool (ltb r.tick until)) [ inl y ↦ rw y ((omega arith), order) | inr n ↦ rw n tt ]
 
 -- the releases of a source are at the tick `since` or later, in order
-pub ordered_released : (place : ℕ) (t : SourceTerms) (until k nominal since : ℕ) (g : Lcg) → IsInOrder since (released place t until k nominal since g)
-ordered_released place t until zero nominal since g = tt
-ordered_released place t until (suc k) nominal since g =
+pub ordered_released : (place : ℕ) (t : SourceTerms) (until k : ℕ) (listed : List ℕ) (nominal since : ℕ) (g : Lcg)
+    → IsInOrder since (released place t until k listed nominal since g)
+ordered_released place t until zero listed nominal since g = tt
+ordered_released place t until (suc k) listed nominal since g =
     let u = drawn t.units g in
     let o = drawn t.overrun u.1 in
     let j = drawn (up_to t.jitter) o.1 in
-    let e = drawn t.every j.1 in
+    let e = next_nominal t.every listed nominal j.1 in
     let tick = max since (nominal + j.0) in
-    let rest = released place t until k (nominal + e.0) tick e.1 in
+    let rest = released place t until k (drop 1 listed) e.0 tick e.1 in
     let r = release_of place t tick u.0 o.0 in
     order_from since tick (if ltb tick until then r ∷ rest else []) (omega arith)
-    (one_ordered until r rest (ordered_released place t until k (nominal + e.0) tick e.1))
+    (one_ordered until r rest (ordered_released place t until k (drop 1 listed) e.0 tick e.1))
 
 -- the releases that a source has left are at its next tick or later, in order
 ordered_pending : (k : ℕ) (c : Cursor) → IsInOrder c.tick (pending_from k c)
 ordered_pending zero c = tt
 ordered_pending (suc k) c =
-    let e = drawn c.terms.every c.draws in
-    let rest = released c.place c.terms c.until k (c.nominal + e.0) c.tick e.1 in
+    let e = next_nominal c.terms.every c.listed c.nominal c.draws in
+    let rest = released c.place c.terms c.until k (drop 1 c.listed) e.0 c.tick e.1 in
     one_ordered c.until (release_of c.place c.terms c.tick c.units c.overrun) rest
-    (ordered_released c.place c.terms c.until k (c.nominal + e.0) c.tick e.1)
+    (ordered_released c.place c.terms c.until k (drop 1 c.listed) e.0 c.tick e.1)
 
 -- the releases of a source are in order
 pub ordered_source : (c : Cursor) → IsInOrder 0 (pending c)

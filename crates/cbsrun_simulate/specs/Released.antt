@@ -1,6 +1,7 @@
 -- What each release owes to the terms of its source.
-use Rattle.std.specs.Prelude.{◌≡◌, ℕ, ◌+◌, ◌-◌, ◌≤◌, ◌<◌, List, [], ◌∷◌, map, get_or, slice_get, Some}
+use Rattle.std.specs.Prelude.{◌≡◌, ℕ, ◌+◌, ◌-◌, ◌≤◌, ◌<◌, leb, Bool, false, if◌then◌else◌, List, [], ◌∷◌, map, get_or, slice_get, Option, Some, None}
 use Rattle.std.specs.List.{AllByRecursion}
+use Rattle.cbs_rate.specs.Limits.{longest_period}
 use Rattle.cbsrun_simulate.specs.declared.release.Release.{Release}
 use Rattle.cbsrun_simulate.specs.declared.terms.SourceTerms.{SourceTerms}
 
@@ -35,9 +36,15 @@ abbrev pub AreApart : (ℕ → ℕ) → List Release → Type 0
 AreApart gap [] = Unit {0}
 AreApart gap (r ∷ rs) = AllByRecursion (IsLater gap r) rs × AreApart gap rs
 
--- the least ticks from one release of a source to the next: of two, the earlier may come late by the whole jitter
+-- the source releases one job at most
+abbrev pub is_single : Option ℕ → Bool
+is_single None = false
+is_single (Some jobs) = leb jobs 1
+
+-- the least ticks from one release of a source to the next: of two, the earlier may come late by the whole jitter. If it
+-- releases one job at most, there is no next, and the longest period stands for that
 abbrev pub distance : SourceTerms → ℕ
-distance t = t.every.least - t.jitter
+distance t = if is_single t.jobs then longest_period else t.every.least - t.jitter
 
 -- the least ticks from one release of source i to the next
 abbrev pub least_distance : List SourceTerms → ℕ → ℕ

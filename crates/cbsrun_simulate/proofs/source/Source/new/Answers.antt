@@ -21,13 +21,13 @@ comes c = let is = c.saturating_add.ensures in omega arith
 
 pub returns-clause-releases : goal.returns-clause-releases
 returns-clause-releases c =
-    rw (← starts c, ← c.unwrap_or.ensures)
+    rw (← starts c, ← c.unwrap_or.ensures, ← c.after_first.ensures)
     (begun _ c.draw-jitter.result c.new-draws.result c.draw-units.new.draws c.draw-overrun.new.draws
     c.draw-units.ensures.value c.draw-overrun.ensures.value (late c) (comes c))
 
 pub returns-clause-endless : goal.returns-clause-endless
 returns-clause-endless c = λ none k more.
-    rw (← starts c)
+    rw (← starts c, ← c.after_first.ensures)
     (endless _ c.draw-jitter.result c.new-draws.result c.draw-units.new.draws c.draw-overrun.new.draws k
     c.draw-units.ensures.value c.draw-overrun.ensures.value (late c) (comes c)
-    (c.unwrap_or.ensures ∙ rw none refl) c.requires.lawful.some_ticks more)
+    (c.unwrap_or.ensures ∙ rw none refl) c.requires.lawful.some_ticks (rw c.after_first.ensures c.requires.listed) more)
