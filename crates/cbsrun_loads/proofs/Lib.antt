@@ -1,1 +1,3 @@
+pub mod Gaps
+pub mod Pairs
 pub mod Names

@@ -4,12 +4,15 @@ use Rattle.cbs_rate.specs.Limits.{most_backlog, longest_period}
 use Rattle.cbs_rate.specs.Plan.{Planned}
 use Rattle.cbs_rules.specs.Rules.{clock_end}
 use Rattle.cbs_rules.specs.declared.mode.Mode.{Mode}
-use Rattle.cbsrun_simulate.specs.Drawing.{IsLawful}
+use Rattle.cbsrun_simulate.specs.Drawing.{AreListed, IsLawful, released_by_all}
+use Rattle.cbsrun_simulate.specs.Merging.{merged}
 use Rattle.cbsrun_simulate.specs.Released.{HasRanges}
+use Rattle.cbsrun_simulate.specs.declared.release.Release.{Release}
 use Rattle.cbsrun_simulate.specs.declared.terms.SourceTerms.{SourceTerms}
 
--- the names, modes and plan of the servers, the greatest backlog of each, the sources, the tick at which a simulation
--- ends, the seed, and the nanoseconds of a tick, if they are said
+-- the names, modes and plan of the servers, the greatest backlog of each, the sources, the nominal ticks that are listed
+-- of each, none if they are drawn, the tick at which a simulation ends, the seed, and the nanoseconds of a tick, if they
+-- are said
 pub record LoadFile : Type 0 where
   pub tick : Option ℕ
   pub names : List (List ℕ)
@@ -19,6 +22,11 @@ pub record LoadFile : Type 0 where
   pub until : ℕ
   pub seed : ℕ
   pub sources : List SourceTerms
+  pub listed : List (List ℕ)
+
+-- the releases of the sources of a load, in the order of their ticks
+abbrev pub releases_of : LoadFile → List Release
+releases_of f = merged (released_by_all 0 f.sources f.listed f.until f.seed)
 
 -- the load with this seed in place of its own
 abbrev pub with_seed : ℕ → LoadFile → LoadFile
@@ -51,3 +59,4 @@ pub record IsLoad (f : LoadFile) : Type 0 where
   pub few_ticks : f.until ≤ clock_end
   pub few_sources : length f.sources ≤ most_sources
   pub lawful : All (IsSource (length f.plan.rates)) f.sources
+  pub listed : AreListed f.sources f.listed

@@ -1,5 +1,5 @@
 -- What the bytes of a sketch spell: a load in which a server may have no reservation yet.
-use Rattle.std.specs.Prelude.{◌≡◌, ℕ, ℤ, ◌≤◌, Bool, codes, is_some, length, ltb, map, get_or, if◌then◌else◌, All, String, string_bytes}
+use Rattle.std.specs.Prelude.{◌≡◌, ℕ, ℤ, ◌≤◌, codes, is_some, length, ltb, map, get_or, if◌then◌else◌, All, String, string_bytes}
 use Rattle.std.specs.Prelude.{List, [], ◌∷◌, ◌++◌, Option, Some, None, Result, Ok, Err}
 use Rattle.std.specs.declared.alloc.Global.{Global}
 use Rattle.toml.specs.Data.{Data, Members, get_member}
@@ -7,8 +7,8 @@ use Rattle.cbs_rate.specs.Bound.{Fraction}
 use Rattle.cbs_rate.specs.Limits.{most_backlog, most_servers}
 use Rattle.cbs_rate.specs.Rate.{Rate}
 use Rattle.cbs_rules.specs.Rules.{clock_end}
-use Rattle.cbs_rules.specs.declared.mode.Mode.{Mode}
 use Rattle.cbs_rules.specs.declared.mode.Mode.TheVariants.{Soft}
+use Rattle.cbsrun_simulate.specs.Drawing.{AreListed}
 use Rattle.cbsrun_simulate.specs.Released.{distance}
 use Rattle.cbsrun_simulate.specs.declared.terms.SourceTerms.{SourceTerms}
 use Rattle.cbsrun_times.specs.declared.ticks.Rounding.TheVariants.{Up, Whole}
@@ -21,7 +21,7 @@ use Rattle.cbsrun_toml_tables.specs.Fields.{◌>>=◌, table_with, text_at, each
 use Rattle.cbsrun_toml_tables.specs.Plans.{reservation, mode_of}
 use Rattle.cbsrun_loads.specs.Loads.{most_sources, IsSource}
 use Rattle.cbsrun_loads.specs.Servers.{name_of}
-use Rattle.cbsrun_loads.specs.Sources.{source_entry}
+use Rattle.cbsrun_loads.specs.Sources.{SourceData, source_entry}
 use Rattle.cbsrun_loads.specs.Spelling.{unless_taken}
 use Rattle.cbsrun_loads.specs.Times.{optional_ticks_at}
 use Rattle.cbsrun_loads.specs.TopTables.{top_table}
@@ -30,8 +30,8 @@ use Rattle.cbsrun_loads.specs.declared.sketch.ServerSketch.{ServerSketch}
 use Rattle.cbsrun_loads.specs.declared.sketch_server.SketchEntry.{SketchEntry}
 
 -- the names of the servers, and their modes and reservations, as far as these are given; the bound on the bandwidth of
--- all, the greatest backlog of each, the tick at which a simulation ends, the seed, the sources, and the nanoseconds of a
--- tick, if they are said
+-- all, the greatest backlog of each, the tick at which a simulation ends, the seed, the sources, the nominal ticks that
+-- are listed of each, and the nanoseconds of a tick, if they are said
 pub record SketchFile : Type 0 where
   pub tick : Option ℕ
   pub names : List (List ℕ)
@@ -41,6 +41,7 @@ pub record SketchFile : Type 0 where
   pub until : ℕ
   pub seed : ℕ
   pub sources : List SourceTerms
+  pub listed : List (List ℕ)
 
 -- what holds of every sketch
 pub record IsSketch (k : SketchFile) : Type 0 where
@@ -52,6 +53,7 @@ pub record IsSketch (k : SketchFile) : Type 0 where
   pub few_ticks : k.until ≤ clock_end
   pub few_sources : length k.sources ≤ most_sources
   pub lawful : All (IsSource (length k.names)) k.sources
+  pub listed : AreListed k.sources k.listed
 
 -- a reservation, as it is given
 abbrev pub given_rate : Rate → Given
@@ -142,7 +144,8 @@ sketch_in table = do
     backlog = top.backlog;
     until = top.until;
     seed = top.seed;
-    sources = sources;
+    sources = map (λ (s : SourceData). s.terms) sources;
+    listed = map (λ (s : SourceData). s.listed) sources;
   })
 
 -- the sketch that the bytes spell

@@ -1,17 +1,20 @@
 -- What one entry of `source` spells in a load file.
-use Rattle.std.specs.Prelude.{ℕ, ℤ, ◌-◌, codes, bytes_eq, get_or, unwrap_or, List, [], ◌∷◌, Option, Some, None, Result, Ok, Err}
+use Rattle.std.specs.Prelude.{ℕ, ℤ, pos, ◌-◌, min, max, Bool, false, is_some, if◌then◌else◌, codes, bytes_eq, drop, get_or, length, map, unwrap_or}
+use Rattle.std.specs.Prelude.{List, [], ◌∷◌, Option, Some, None, Result, Ok, Err, Vec}
+use Rattle.std.specs.declared.alloc.Global.{Global}
 use Rattle.std.specs.List.{position}
 use Rattle.toml.specs.Data.{Data, Members, get_member}
 use Rattle.cbs_rate.specs.Limits.{longest_period, most_units}
 use Rattle.cbs_rate.specs.Rate.{Rate}
 use Rattle.cbs_rules.specs.Rules.{clock_end}
 use Rattle.cbsrun_simulate.specs.Bounds.{Bounds}
+use Rattle.cbsrun_simulate.specs.Drawing.{follow}
 use Rattle.cbsrun_simulate.specs.declared.terms.SourceTerms.{SourceTerms}
 use Rattle.cbsrun_toml_tables.specs.declared.fault.FileKind.{FileKind}
 use Rattle.cbsrun_toml_tables.specs.declared.fault.FileKind.TheVariants.{OutOfRange}
 use Rattle.cbsrun_times.specs.declared.ticks.Rounding.{Rounding}
 use Rattle.cbsrun_times.specs.declared.ticks.Rounding.TheVariants.{Up, Down}
-use Rattle.cbsrun_toml_tables.specs.Fields.{◌>>=◌, seen, table_with, present, text_at, optional_integer_at, items, all_integers, within, of_some}
+use Rattle.cbsrun_toml_tables.specs.Fields.{◌>>=◌, seen, table_with, present, text_at, optional_integer_at, items, items_at, members, all_integers, each, sized, within, of_some}
 use Rattle.cbsrun_loads.specs.Times.{ticks, optional_ticks_at}
 use Rattle.cbsrun_loads.specs.declared.source.SourceFields.{SourceFields}
 
@@ -123,27 +126,132 @@ spelled_by names f = do
     overrun = unwrap_or overrun (record { least = 0; greatest = 0 });
   })
 
+-- the ticks from one listed tick to the next, after a first one: the least of these, and the greatest. If no tick
+-- follows, the least is the clock's end
+abbrev pub least_gap : ℕ → List ℕ → ℕ
+least_gap n [] = clock_end
+least_gap n (m ∷ ms) = min (m - n) (least_gap m ms)
+
+abbrev pub greatest_gap : ℕ → List ℕ → ℕ
+greatest_gap n [] = 0
+greatest_gap n (m ∷ ms) = max (m - n) (greatest_gap m ms)
+
+-- the first of listed ticks, and the others
+abbrev pub first_listed : List ℕ → ℕ
+first_listed listed = get_or listed 0 0
+
+-- the ticks from one listed tick to the next, from the least to the greatest
+abbrev pub listed_range : List ℕ → ℤ × ℤ
+listed_range listed =
+    let least = least_gap (first_listed listed) (drop 1 listed) in
+    (pos least, pos (max least (greatest_gap (first_listed listed) (drop 1 listed))))
+
+-- the greatest number of ticks that a source may list
+abbrev pub most_listed : ℕ
+most_listed = 1000000
+
+-- one listed tick, rounded down
+abbrev pub listed_tick : Option ℕ → Data → Result ℕ FileKind
+listed_tick tick d = ticks tick Down d >>= within 0 clock_end
+
+-- the fault OutOfRange, unless each tick is later than the one before it
+abbrev pub ascending : List ℕ → Result (Unit {0}) FileKind
+ascending listed = if follow 1 (first_listed listed) (drop 1 listed) then Ok tt else Err OutOfRange
+
+-- the ticks that are listed at the key `at`
+unfoldable pub listed_ticks : Option ℕ → Members → Result (List ℕ) FileKind
+listed_ticks tick table = do
+  values ← items_at (codes "at") table
+  _ ← sized 1 most_listed values
+  listed ← each (listed_tick tick) values
+  _ ← ascending listed
+  Ok listed
+
+-- the keys that an entry must have if it lists its ticks, and those that may be left out
+abbrev pub required_if_listed : List (List ℕ)
+required_if_listed = codes "server" ∷ codes "at" ∷ codes "units" ∷ []
+
+abbrev pub optional_if_listed : List (List ℕ)
+optional_if_listed = codes "within" ∷ codes "overrun" ∷ codes "jitter" ∷ []
+
+-- The values of the keys of an entry that lists these ticks, or the first fault over the others. The first job comes at
+-- the first of them, as many jobs come as there are, and as many ticks lie between them as their gaps say.
+unfoldable pub listed_fields : Option ℕ → List ℕ → Members → Result FieldsData FileKind
+listed_fields tick listed table = do
+  server_name ← text_at (codes "server") table
+  units_numbers ← numbers_at tick Up (codes "units") table
+  within_number ← optional_ticks_at tick Down (codes "within") table
+  overrun_numbers ← optional_numbers_at tick Up (codes "overrun") table
+  jitter_number ← optional_ticks_at tick Up (codes "jitter") table
+  Ok (record {
+    server = server_name;
+    first = Some (pos (first_listed listed));
+    every = Some (listed_range listed);
+    units = units_numbers;
+    jobs = Some (pos (length listed));
+    within = within_number;
+    overrun = overrun_numbers;
+    jitter = jitter_number;
+  })
+
+-- a source: its terms, and its nominal ticks if they are listed, none if they are drawn
+pub record SourceData : Type 0 where
+  pub terms : SourceTerms
+  pub listed : List ℕ
+
+-- the source of an entry that lists its ticks
+unfoldable pub listed_entry : Option ℕ → List (List ℕ) → Data → Result SourceData FileKind
+listed_entry tick names entry = do
+  table ← table_with required_if_listed optional_if_listed entry
+  listed ← listed_ticks tick table
+  fields ← listed_fields tick listed table
+  terms ← spelled_by names fields
+  Ok (record { terms = terms; listed = listed })
+
+-- the entry lists its ticks: it is a table with the key `at`
+abbrev pub is_listing : Data → Bool
+is_listing d = elim (members d) [ Ok ms ↦ is_some (get_member (codes "at") ms) | Err _ ↦ false ]
+
 -- the source with each job to be finished within so many ticks, if it does not say within how many
 abbrev pub due_within : ℕ → SourceTerms → SourceTerms
 due_within ticks t = record t { within = Some (unwrap_or t.within ticks) }
 
+-- the source of an entry that does not list its ticks
+abbrev pub drawn_entry : Option ℕ → List (List ℕ) → Data → Result SourceData FileKind
+drawn_entry tick names entry = do
+  fields ← source_fields tick entry
+  terms ← spelled_by names fields
+  Ok (record { terms = terms; listed = [] })
+
 -- the source of an entry, in a file with servers of these names. It may not say within how many ticks its jobs are to be
 -- finished
-abbrev pub terms_entry : Option ℕ → List (List ℕ) → Data → Result SourceTerms FileKind
-terms_entry tick names entry = do
-  fields ← source_fields tick entry
-  spelled_by names fields
+abbrev pub terms_entry : Option ℕ → List (List ℕ) → Data → Result SourceData FileKind
+terms_entry tick names entry = if is_listing entry then listed_entry tick names entry else drawn_entry tick names entry
 
 -- the source of an entry, in a file with servers of these names, which say within how many ticks the jobs of a source are
 -- to be finished, if the entry does not
-abbrev pub source_entry : Option ℕ → List (List ℕ) → (SourceTerms → ℕ) → Data → Result SourceTerms FileKind
+abbrev pub source_entry : Option ℕ → List (List ℕ) → (SourceTerms → ℕ) → Data → Result SourceData FileKind
 source_entry tick names due entry = do
-  terms ← terms_entry tick names entry
-  Ok (due_within (due terms) terms)
+  source ← terms_entry tick names entry
+  Ok (record source { terms = due_within (due source.terms) source.terms })
 
 -- in a load a job is to be finished within its server's period
 abbrev pub due_in_plan : List Rate → SourceTerms → ℕ
 due_in_plan rates t = period_at rates t.server
+
+-- a source, as the code holds it
+abbrev pub source_view : (SourceTerms × Vec ℕ Global) → SourceData
+source_view s = record { terms = s.0; listed = s.1.items }
+
+-- sources by their terms and by what is listed of them
+abbrev pub paired : List SourceTerms → List (List ℕ) → List SourceData
+paired [] listed = []
+paired (t ∷ ts) [] = []
+paired (t ∷ ts) (ns ∷ listed) = record { terms = t; listed = ns } ∷ paired ts listed
+
+-- the same, as the code holds them
+abbrev pub sources_view : (Vec SourceTerms Global × Vec (Vec ℕ Global) Global) → List SourceData
+sources_view s = paired s.0.items (map (λ v. v.items) s.1.items)
 
 -- the values of the keys, as the code holds them
 abbrev pub fields_view : SourceFields → FieldsData

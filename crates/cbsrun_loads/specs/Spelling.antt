@@ -14,7 +14,7 @@ use Rattle.cbsrun_toml_tables.specs.Documents.{at, document, has_key, taken_in}
 use Rattle.cbsrun_toml_tables.specs.Fields.{◌>>=◌, each_from}
 use Rattle.cbsrun_loads.specs.Loads.{LoadFile}
 use Rattle.cbsrun_loads.specs.Servers.{server_entry}
-use Rattle.cbsrun_loads.specs.Sources.{due_in_plan, source_entry}
+use Rattle.cbsrun_loads.specs.Sources.{SourceData, due_in_plan, source_entry}
 use Rattle.cbsrun_loads.specs.TopTables.{top_table}
 
 -- whether the file is a load: its top table has the key `load`
@@ -61,7 +61,8 @@ load_in table = do
     backlog = top.backlog;
     until = top.until;
     seed = top.seed;
-    sources = sources;
+    sources = map (λ (s : SourceData). s.terms) sources;
+    listed = map (λ (s : SourceData). s.listed) sources;
   })
 
 -- the load that the bytes spell

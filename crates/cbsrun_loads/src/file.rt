@@ -10,7 +10,8 @@ ghost use Rattle.cbsrun_toml_tables.specs.Documents.{at, document, no_memory, ta
 ghost use Rattle.cbsrun_toml_tables.specs.Fields.{Gives, each_from};
 ghost use Rattle.cbsrun_toml_tables.specs.Memory.{IsBounded, result_of};
 ghost use Rattle.cbsrun_loads.specs.Loads.{IsSource};
-ghost use Rattle.cbsrun_loads.specs.Sources.{source_entry};
+ghost use Rattle.cbsrun_loads.specs.Sources.{source_entry, sources_view};
+ghost use Rattle.cbsrun_simulate.specs.Drawing.{AreListed};
 ghost use Rattle.cbsrun_loads.specs.Spelling.{admitted_entry, load, load_in, named_view};
 
 use crate::load::Load;
@@ -77,33 +78,40 @@ fn servers_of(
     Ok((names, setup))
 }
 
-/// Returns the sources of the entries of `source`, in a file with servers of these names.
+/// Returns the sources of the entries of `source`, in a file with servers of these names: their terms, and the nominal
+/// ticks that are listed of each.
 pub fn sources_of<D: Due>(
     alloc: Global,
     tick: Option<u64>,
     names: &[String],
     servers: &D,
     entries: &[Value],
-) -> Result<Vec<SourceTerms>, FileFault>
+) -> Result<(Vec<SourceTerms>, Vec<Vec<u64>>), FileFault>
     requires few { length names.now ≤ most_servers }
     requires named { length names.now ≡ D.servers servers.now }
-    ensures sources { Gives no_memory (λ v. v.items) result
+    ensures sources { Gives no_memory sources_view result
         (each_from 0 (λ i e. at (AtSource i) (source_entry tick (map string_bytes names.now)
         (D.due servers.now) e)) (map view entries.now)) }
-    ensures lawful { IfOk result (λ v. All (IsSource (length names.now)) v.items) }
-    ensures count { IfOk result (λ v. length v.items ≡ length entries.now) }
+    ensures lawful { IfOk result (λ s. All (IsSource (length names.now)) s.0.items) }
+    ensures listed { IfOk result (λ s. AreListed s.0.items (map (λ v. v.items) s.1.items)) }
+    ensures count { IfOk result (λ s. length s.0.items ≡ length entries.now) }
+    ensures paired { IfOk result (λ s. length s.1.items ≡ length s.0.items) }
 {
     let mut sources = Vec::new(alloc);
+    let mut listed = Vec::new(alloc);
     for (i, entry) in entries.iter().enumerate() {
-        let source = at(
+        let (terms, ticks) = at(
             Place::Source(i as u64),
-            source_entry(tick, names, servers, entry),
+            source_entry(alloc, tick, names, servers, entry),
         )?;
-        let Ok(()) = sources.push(source) else {
+        let Ok(()) = sources.push(terms) else {
+            return Err(faulty(Place::Top, FileKind::OutOfMemory));
+        };
+        let Ok(()) = listed.push(ticks) else {
             return Err(faulty(Place::Top, FileKind::OutOfMemory));
         };
     }
-    Ok(sources)
+    Ok((sources, listed))
 }
 
 /// Returns the load that the top table of a document spells, or its first fault. The faults, and their order, are those
@@ -117,7 +125,7 @@ pub fn load_in(alloc: Global, table: &Table) -> Result<Load, FileFault>
         Err(kind) => return Err(faulty(Place::Top, kind)),
     };
     let (names, setup) = servers_of(alloc, top.tick, top.bound, top.servers)?;
-    let sources = sources_of(alloc, top.tick, &names, setup.plan(), top.sources)?;
+    let (sources, listed) = sources_of(alloc, top.tick, &names, setup.plan(), top.sources)?;
     Ok(Load {
         tick: top.tick,
         names,
@@ -126,6 +134,7 @@ pub fn load_in(alloc: Global, table: &Table) -> Result<Load, FileFault>
         until: top.until,
         seed: top.seed,
         sources,
+        listed,
     })
 }
 

@@ -3,6 +3,7 @@
 #![tactic(auto)]
 
 mod file;
+mod listed;
 mod load;
 mod server;
 mod sketch;

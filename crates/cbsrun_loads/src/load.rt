@@ -20,6 +20,7 @@ pub struct Load {
     pub(crate) until: u64,
     pub(crate) seed: u64,
     pub(crate) sources: Vec<SourceTerms>,
+    pub(crate) listed: Vec<Vec<u64>>,
 }
 
 // Written by hand, as one call. A derived `Drop` would be written out, field by field, wherever a function that owns a
@@ -34,6 +35,7 @@ impl Drop for Load {
             until: _,
             seed: _,
             sources: _,
+            listed: _,
         } = self;
     }
 }
@@ -44,9 +46,9 @@ impl Model for Load {
 
     ghost Value = { LoadFile };
 
-    ghost view = { λ f. record { tick = f.tick; names = map string_bytes f.names.items; modes = f.setup.modes; plan = f.setup.plan; backlog = f.backlog; until = f.until; seed = f.seed; sources = f.sources.items } };
+    ghost view = { λ f. record { tick = f.tick; names = map string_bytes f.names.items; modes = f.setup.modes; plan = f.setup.plan; backlog = f.backlog; until = f.until; seed = f.seed; sources = f.sources.items; listed = map (λ v. v.items) f.listed.items } };
 
-    ghost invariant = { λ f. IsLoad (record { tick = f.tick; names = map string_bytes f.names.items; modes = f.setup.modes; plan = f.setup.plan; backlog = f.backlog; until = f.until; seed = f.seed; sources = f.sources.items }) };
+    ghost invariant = { λ f. IsLoad (record { tick = f.tick; names = map string_bytes f.names.items; modes = f.setup.modes; plan = f.setup.plan; backlog = f.backlog; until = f.until; seed = f.seed; sources = f.sources.items; listed = map (λ v. v.items) f.listed.items }) };
 }
 
 impl Load {
@@ -108,6 +110,14 @@ impl Load {
         ensures lawful { IsLoad self.now }
     {
         &self.sources
+    }
+
+    /// Returns the nominal ticks of each source that the file lists, by its place: none if they are drawn.
+    pub fn listed(&self) -> &[Vec<u64>]
+        ensures value { map (λ v. v.items) result.now ≡ self.now.listed }
+        ensures lawful { IsLoad self.now }
+    {
+        &self.listed
     }
 
     /// Returns the load with this seed in place of its own.

@@ -39,6 +39,7 @@ pub struct Sketch {
     pub(crate) until: u64,
     pub(crate) seed: u64,
     pub(crate) sources: Vec<SourceTerms>,
+    pub(crate) listed: Vec<Vec<u64>>,
 }
 
 // Written by hand, as one call, as that of a load is.
@@ -53,6 +54,7 @@ impl Drop for Sketch {
             until: _,
             seed: _,
             sources: _,
+            listed: _,
         } = self;
     }
 }
@@ -63,9 +65,9 @@ impl Model for Sketch {
 
     ghost Value = { SketchFile };
 
-    ghost view = { λ k. record { tick = k.tick; names = map string_bytes k.names.items; servers = k.servers.items; bound = k.bound; backlog = k.backlog; until = k.until; seed = k.seed; sources = k.sources.items } };
+    ghost view = { λ k. record { tick = k.tick; names = map string_bytes k.names.items; servers = k.servers.items; bound = k.bound; backlog = k.backlog; until = k.until; seed = k.seed; sources = k.sources.items; listed = map (λ v. v.items) k.listed.items } };
 
-    ghost invariant = { λ k. IsSketch (record { tick = k.tick; names = map string_bytes k.names.items; servers = k.servers.items; bound = k.bound; backlog = k.backlog; until = k.until; seed = k.seed; sources = k.sources.items }) };
+    ghost invariant = { λ k. IsSketch (record { tick = k.tick; names = map string_bytes k.names.items; servers = k.servers.items; bound = k.bound; backlog = k.backlog; until = k.until; seed = k.seed; sources = k.sources.items; listed = map (λ v. v.items) k.listed.items }) };
 }
 
 impl Sketch {
@@ -127,5 +129,13 @@ impl Sketch {
         ensures lawful { IsSketch self.now }
     {
         &self.sources
+    }
+
+    /// Returns the nominal ticks of each source that the file lists, by its place: none if they are drawn.
+    pub fn listed(&self) -> &[Vec<u64>]
+        ensures value { map (λ v. v.items) result.now ≡ self.now.listed }
+        ensures lawful { IsSketch self.now }
+    {
+        &self.listed
     }
 }

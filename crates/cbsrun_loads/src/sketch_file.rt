@@ -112,7 +112,7 @@ fn sketch_in(alloc: Global, table: &Table) -> Result<Sketch, FileFault>
         Err(kind) => return Err(faulty(Place::Top, kind)),
     };
     let (names, servers) = servers_of(alloc, top.tick, top.servers)?;
-    let sources = sources_of(alloc, top.tick, &names, &servers, top.sources)?;
+    let (sources, listed) = sources_of(alloc, top.tick, &names, &servers, top.sources)?;
     Ok(Sketch {
         tick: top.tick,
         names,
@@ -122,6 +122,7 @@ fn sketch_in(alloc: Global, table: &Table) -> Result<Sketch, FileFault>
         until: top.until,
         seed: top.seed,
         sources,
+        listed,
     })
 }
 

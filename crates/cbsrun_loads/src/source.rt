@@ -4,11 +4,14 @@ ghost use Rattle.std.specs.Prelude.{◌≡◌, ◌≤◌, ◌<◌, ℕ, length, 
 ghost use Rattle.std.specs.List.{position};
 ghost use Rattle.toml.specs.View.{view, table_view};
 ghost use Rattle.cbs_rate.specs.Limits.{most_servers};
-ghost use Rattle.cbsrun_toml_tables.specs.Fields.{seen, of_some};
+ghost use Rattle.cbsrun_toml_tables.specs.declared.fault.FileKind.TheVariants.{OutOfMemory};
+ghost use Rattle.cbsrun_toml_tables.specs.Fields.{Gives, seen, of_some};
+ghost use Rattle.cbsrun_simulate.specs.Drawing.{IsListed};
 ghost use Rattle.cbsrun_simulate.specs.declared.terms.SourceTerms.{SourceTerms};
 ghost use Rattle.cbsrun_loads.specs.Loads.{IsSource};
-ghost use Rattle.cbsrun_loads.specs.Sources.{two_numbers, two_ticks, numbers_at, optional_numbers_at, range_within, server_named, period_at, source_fields, due_in_plan, due_within, spelled_by, source_entry, terms_entry, fields_view};
+ghost use Rattle.cbsrun_loads.specs.Sources.{two_numbers, two_ticks, numbers_at, optional_numbers_at, range_within, server_named, period_at, source_fields, due_in_plan, due_within, spelled_by, source_entry, terms_entry, fields_view, source_view};
 
+use crate::listed::{is_listing, listed_entry};
 use crate::times::{optional_ticks_at, ticks};
 use cbs_job::MAX_UNITS;
 use cbs_rate::{MAX_PERIOD, Plan};
@@ -19,19 +22,20 @@ use cbsrun_toml_tables::{
     FileKind, all_integers, items, optional, optional_integer_at, optional_within, present,
     table_with, text_at, within,
 };
+use std::alloc::Global;
 use toml::{Table, Value};
 
 /// The values of a source's keys, each of its type.
 #[derive(Clone, Copy)]
-struct SourceFields<'a> {
-    server: &'a str,
-    first: Option<i64>,
-    every: Option<(i64, i64)>,
-    units: Option<(i64, i64)>,
-    jobs: Option<i64>,
-    within: Option<i64>,
-    overrun: Option<Option<(i64, i64)>>,
-    jitter: Option<i64>,
+pub(crate) struct SourceFields<'a> {
+    pub server: &'a str,
+    pub first: Option<i64>,
+    pub every: Option<(i64, i64)>,
+    pub units: Option<(i64, i64)>,
+    pub jobs: Option<i64>,
+    pub within: Option<i64>,
+    pub overrun: Option<Option<(i64, i64)>>,
+    pub jitter: Option<i64>,
 }
 
 /// Returns two numbers of ticks, or `None` if there are fewer or more of them. Refuses a value of another type.
@@ -69,7 +73,7 @@ fn two_numbers(
 
 /// Returns the least and the greatest number of ticks of the range at a key.
 #[tactic(auto, unfolding(crate::specs::Sources::numbers_at))]
-fn numbers_at(
+pub(crate) fn numbers_at(
     tick: Option<u64>,
     rounding: Rounding,
     table: &Table,
@@ -82,7 +86,7 @@ fn numbers_at(
 
 /// Returns the least and the greatest number of ticks of the range at a key, or `None` if the table lacks the key.
 #[tactic(auto, unfolding(crate::specs::Sources::optional_numbers_at))]
-fn optional_numbers_at(
+pub(crate) fn optional_numbers_at(
     tick: Option<u64>,
     rounding: Rounding,
     table: &Table,
@@ -188,7 +192,10 @@ fn source_fields(tick: Option<u64>, entry: &Value) -> Result<SourceFields<'_>, F
 
 /// Returns the source that the values spell, each in its range. The jitter is less than the least `every`.
 #[tactic(auto, unfolding(crate::specs::Sources::spelled_by))]
-fn spelled_by(names: &[String], fields: SourceFields<'_>) -> Result<SourceTerms, FileKind>
+pub(crate) fn spelled_by(
+    names: &[String],
+    fields: SourceFields<'_>,
+) -> Result<SourceTerms, FileKind>
     requires { length names.now ≤ most_servers }
     ensures value { result ≡ spelled_by (map string_bytes names.now) (fields_view fields.entry) }
     ensures lawful { IfOk result (λ t. IsSource (length names.now) (due_within 0 t)) }
@@ -225,12 +232,23 @@ fn due_within(ticks: u64, terms: SourceTerms) -> SourceTerms
 
 /// Returns the source of one entry, in a file with servers of these names. It may not say within how many ticks its jobs
 /// are to be finished.
-fn terms_entry(tick: Option<u64>, names: &[String], entry: &Value) -> Result<SourceTerms, FileKind>
+fn terms_entry(
+    alloc: Global,
+    tick: Option<u64>,
+    names: &[String],
+    entry: &Value,
+) -> Result<(SourceTerms, Vec<u64>), FileKind>
     requires { length names.now ≤ most_servers }
-    ensures value { result ≡ terms_entry tick (map string_bytes names.now) (view entry.now) }
-    ensures lawful { IfOk result (λ t. IsSource (length names.now) (due_within 0 t)) }
+    ensures value { Gives OutOfMemory source_view result
+        (terms_entry tick (map string_bytes names.now) (view entry.now)) }
+    ensures lawful { IfOk result (λ s. IsSource (length names.now) (due_within 0 s.0)) }
+    ensures listed { IfOk result (λ s. IsListed s.0 s.1.items) }
 {
-    spelled_by(names, source_fields(tick, entry)?)
+    if is_listing(entry) {
+        return listed_entry(alloc, tick, names, entry);
+    }
+    let terms = spelled_by(names, source_fields(tick, entry)?)?;
+    Ok((terms, Vec::new(alloc)))
 }
 
 /// The servers of a file, which say by when jobs are to be finished.
@@ -257,19 +275,21 @@ impl Due for Plan {
     }
 }
 
-/// Returns the source of one entry, in a file with these servers.
+/// Returns the source of one entry, in a file with these servers: its terms, and its nominal ticks if they are listed.
 pub fn source_entry<D: Due>(
+    alloc: Global,
     tick: Option<u64>,
     names: &[String],
     servers: &D,
     entry: &Value,
-) -> Result<SourceTerms, FileKind>
+) -> Result<(SourceTerms, Vec<u64>), FileKind>
     requires few { length names.now ≤ most_servers }
     requires named { length names.now ≡ D.servers servers.now }
-    ensures value { result ≡ source_entry tick (map string_bytes names.now) (D.due servers.now)
-        (view entry.now) }
-    ensures lawful { IfOk result (IsSource (length names.now)) }
+    ensures value { Gives OutOfMemory source_view result
+        (source_entry tick (map string_bytes names.now) (D.due servers.now) (view entry.now)) }
+    ensures lawful { IfOk result (λ s. IsSource (length names.now) s.0) }
+    ensures listed { IfOk result (λ s. IsListed s.0 s.1.items) }
 {
-    let terms = terms_entry(tick, names, entry)?;
-    Ok(due_within(servers.due(&terms), terms))
+    let (terms, listed) = terms_entry(alloc, tick, names, entry)?;
+    Ok((due_within(servers.due(&terms), terms), listed))
 }
