@@ -2,7 +2,7 @@
 
 use crate::page::Page;
 use crate::shown::{append_shown, type_phrase};
-use cbsrun_faults::{Key, MAX_NUMBER, Spot, Want, first_bad_unit, two_numbers};
+use cbsrun_faults::{Key, MAX_NUMBER, Spot, Want, first_bad_tick, first_bad_unit, two_numbers};
 use cbsrun_times::{LONGEST_TICK, Rounding, ticks_of};
 use toml::Value;
 
@@ -30,6 +30,10 @@ pub(crate) fn append_type(page: &mut Page, key: Key, spot: &Spot<'_>) {
         Want::Bound => page.push("two whole numbers, [N, D]"),
         Want::Tables(_) => page.push("an array of tables"),
         Want::Units => page.push("an array of whole numbers"),
+        Want::Listed if may_be_time(key, spot) => {
+            page.push("an array of times or whole numbers of ticks")
+        }
+        Want::Listed => page.push("an array of whole numbers of ticks"),
         Want::Tick => page.push("a text, as \"0.1 ms\""),
     }
 }
@@ -86,6 +90,7 @@ pub(crate) fn append_allowed(page: &mut Page, want: Want, spot: &Spot<'_>) {
             page.push(" tables");
         }
         Want::Units => page.push_number("1 to 1000000 numbers from 0 to ", MAX_NUMBER),
+        Want::Listed => page.push("1 to 1000000 ticks, each later than the one before it"),
         Want::Server | Want::ServerName => page.push("a server"),
         Want::Tick => page.push("a time of whole nanoseconds, from \"1 ns\" to \"1 s\""),
     }
@@ -154,6 +159,36 @@ fn append_units(page: &mut Page, name: &str, units: &[Value]) {
         page.push_all(&[" of `", name, "` is "]);
         append_shown(page, unit);
         page.push_number(", and has to be from 0 to ", MAX_NUMBER);
+    }
+}
+
+/// Appends which of the ticks that a source lists is wrong, or that there are too few or too many.
+fn append_listed(page: &mut Page, key: Key, listed: &[Value], tick: Option<u64>) {
+    let bad = first_bad_tick(tick, listed);
+    let Some(place) = bad else {
+        page.push_all(&["`", key.name]);
+        page.push_number("` has ", listed.len() as u64);
+        return page.push(" ticks, and has to have 1 to 1000000");
+    };
+    if let Some(entry) = listed.get(place.saturating_sub(1)) {
+        page.push_number("number ", place as u64);
+        page.push_all(&[" of `", key.name, "` is "]);
+        append_shown(page, entry);
+        page.push(", and has to be later than the one before it, and at most 10^12 ticks");
+    }
+}
+
+/// Appends what is wrong with ticks that a source lists: an entry that is no time, or a tick that is out of range.
+fn append_listed_fault(
+    page: &mut Page,
+    key: Key,
+    value: &Value,
+    listed: &[Value],
+    tick: Option<u64>,
+) {
+    match bad_entry(tick, key, value) {
+        Some((place, entry, bad)) => append_bad_entry(page, key, place, entry, bad),
+        None => append_listed(page, key, listed, tick),
     }
 }
 
@@ -256,22 +291,39 @@ pub(crate) fn append_outside(page: &mut Page, key: Key, value: &Value, spot: &Sp
         }
         (Want::Range(_, _), _) => append_range(page, key, value, spot),
         (Want::Units, Value::Array(units)) => append_units(page, name, units),
+        (Want::Listed, Value::Array(listed)) => {
+            append_listed_fault(page, key, value, listed, spot.document.tick)
+        }
         (Want::Tables(most), _) => write!(page, "`{name}` has more tables than {most}"),
         _ => append_plain(page, key, value, spot),
     }
 }
 
-/// Returns the first entry of an array that is no number, or `None` if there is none.
-fn odd_entry(want: Want, value: &Value) -> Option<&Value> {
-    if !matches!(want, Want::Range(_, _) | Want::Bound | Want::Units) {
+/// Returns whether a key has an array of numbers.
+fn wants_numbers(want: Want) -> bool {
+    matches!(
+        want,
+        Want::Range(_, _) | Want::Bound | Want::Units | Want::Listed
+    )
+}
+
+/// Returns whether an entry is a number, or a text if it may be a time.
+fn is_number_or_time(entry: &Value, may_be_time: bool) -> bool {
+    entry.is_integer() || may_be_time && entry.is_str()
+}
+
+/// Returns the first entry of an array that is no number, and no time if it may be one, or `None` if there is none.
+fn odd_entry(want: Want, value: &Value, may_be_time: bool) -> Option<&Value> {
+    if !wants_numbers(want) {
         return None;
     }
-    value.as_array()?.iter().find(|entry| !entry.is_integer())
+    let mut entries = value.as_array()?.iter();
+    entries.find(|entry| !is_number_or_time(entry, may_be_time))
 }
 
 /// Appends what is wrong with a value of a wrong type.
 pub(crate) fn append_wrong_type(page: &mut Page, key: Key, value: &Value, spot: &Spot<'_>) {
-    let (verb, phrase, end) = match odd_entry(key.want, value) {
+    let (verb, phrase, end) = match odd_entry(key.want, value, may_be_time(key, spot)) {
         Some(entry) => ("has ", type_phrase(entry), " in it"),
         None => ("is ", type_phrase(value), ""),
     };

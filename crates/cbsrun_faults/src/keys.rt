@@ -63,6 +63,8 @@ pub enum Want {
     Tables(u64),
     /// An array of numbers, one for each unit.
     Units,
+    /// An array of ticks, each later than the one before it.
+    Listed,
     /// The length of a tick.
     Tick,
 }
@@ -82,7 +84,7 @@ impl Key {
         match self.name {
             "units" if matches!(self.want, Want::Units) => None,
             "units" | "overrun" | "jitter" | "budget" | "until" => Some(Rounding::Up),
-            "first" | "every" | "within" => Some(Rounding::Down),
+            "first" | "every" | "at" | "within" => Some(Rounding::Down),
             "period" => Some(Rounding::Whole),
             _ => None,
         }
@@ -176,6 +178,15 @@ static SOURCE: [Key; 8] = [
     optional_key!("jitter", Want::Jitter),
 ];
 
+static LISTING_SOURCE: [Key; 6] = [
+    key!("at", Want::Listed),
+    key!("server", Want::ServerName),
+    key!("units", Want::Range(1, MAX_UNITS as u64)),
+    optional_key!("within", Want::Number(1, LIMIT)),
+    optional_key!("overrun", Want::Range(0, MAX_PERIOD)),
+    optional_key!("jitter", Want::Jitter),
+];
+
 static STEP: [Key; 1] = [key!("op", Want::Word(Words::Steps))];
 
 static SUBMIT: [Key; 4] = [
@@ -216,6 +227,8 @@ pub enum Subject {
     /// A server of a load file.
     NamedServer,
     Source,
+    /// A source that lists its ticks: it has the key `at`.
+    ListingSource,
     /// A step whose `op` is not known.
     Step,
     Submit,
@@ -237,6 +250,7 @@ impl Subject {
             Subject::ModedServer => &MODED_SERVER,
             Subject::NamedServer => &NAMED_SERVER,
             Subject::Source => &SOURCE,
+            Subject::ListingSource => &LISTING_SOURCE,
             Subject::Step | Subject::Run => &STEP,
             Subject::Submit => &SUBMIT,
             Subject::Advance => &ADVANCE,
@@ -258,6 +272,7 @@ impl Subject {
             Subject::Load => "a load file",
             Subject::PlainServer | Subject::ModedServer | Subject::NamedServer => "a server",
             Subject::Source => "a source",
+            Subject::ListingSource => "a source with `at`",
             Subject::Step => "a step",
             Subject::Submit => "a submit",
             Subject::Run => "a run",

@@ -22,4 +22,4 @@ pub use meant::{Meant, meant_by};
 pub use nearest::nearest_word;
 pub use refused::{Refused, refused_at, reservations};
 pub use spot::{Spot, spot_at};
-pub use wants::{MAX_NUMBER, first_bad_unit, two_numbers};
+pub use wants::{MAX_NUMBER, first_bad_tick, first_bad_unit, two_numbers};

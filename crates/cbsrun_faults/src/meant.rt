@@ -20,7 +20,7 @@ pub enum Meant {
 /// A word of other tools, and the key for it.
 type Synonym = (&'static str, &'static str);
 
-static OF_SOURCES: [Synonym; 11] = [
+static OF_SOURCES: [Synonym; 13] = [
     ("deadline", "within"),
     ("wcet", "units"),
     ("cost", "units"),
@@ -32,6 +32,8 @@ static OF_SOURCES: [Synonym; 11] = [
     ("phase", "first"),
     ("start", "first"),
     ("count", "jobs"),
+    ("arrivals", "at"),
+    ("releases", "at"),
 ];
 
 static OF_SERVERS: [Synonym; 4] = [
@@ -81,7 +83,7 @@ fn synonyms(subject: Subject) -> &'static [Synonym] {
     match subject {
         Subject::Load => &OF_LOADS,
         Subject::PlainServer | Subject::ModedServer | Subject::NamedServer => &OF_SERVERS,
-        Subject::Source => &OF_SOURCES,
+        Subject::Source | Subject::ListingSource => &OF_SOURCES,
         _ => &[],
     }
 }
@@ -93,7 +95,7 @@ fn others(subject: Subject) -> &'static [Other] {
         Subject::Load => &BESIDE_LOADS,
         Subject::PlainServer | Subject::ModedServer => &BESIDE_SERVERS_OF_TASKS,
         Subject::NamedServer => &BESIDE_SERVERS_OF_LOADS,
-        Subject::Source => &BESIDE_SOURCES,
+        Subject::Source | Subject::ListingSource => &BESIDE_SOURCES,
         _ => &[],
     }
 }

@@ -6,7 +6,7 @@ ghost use Rattle.cbsrun_toml_tables.specs.declared.fault.Place.TheVariants.{Serv
 ghost use Rattle.cbsrun_faults.specs.Documents.{entries_at, name_of};
 ghost use Rattle.cbsrun_faults.specs.Spots.{label_text, label_of, named_label, FindsServer};
 
-use crate::document::{Document, Kind, entries, name_of, server_named, text_at};
+use crate::document::{Document, Kind, entries, name_of, server_named, text_at, value_at};
 use crate::keys::Subject;
 use crate::wants::{most_jitter_of, period_of};
 use cbsrun_toml_tables::Place;
@@ -71,8 +71,8 @@ impl Spot<'_> {
         period_of(self.document.tick, self.table?)
     }
 
-    /// Returns the greatest jitter that the table may have: one tick less than its least `every`. Returns `None` if
-    /// there is no table or it has no such ticks.
+    /// Returns the greatest jitter that the table may have: one tick less than its least `every`, or than the least
+    /// between two ticks that it lists. Returns `None` if there is no table or it has no such ticks.
     pub fn most_jitter(&self) -> Option<u64> {
         most_jitter_of(self.document.tick, self.table?)
     }
@@ -164,13 +164,21 @@ fn server_spot(document: Document<'_>, number: u64) -> Option<Spot<'_>>
     })
 }
 
+/// Returns the kind of a source, by whether it lists its ticks.
+fn source_subject(entry: &Value) -> Subject {
+    match value_at(entry, "at") {
+        Some(_) => Subject::ListingSource,
+        None => Subject::Source,
+    }
+}
+
 /// Returns the source with this number, from 0, or `None` if there is none.
 fn source_spot(document: Document<'_>, number: u64) -> Option<Spot<'_>> {
     let entry = entry_at(document, "source", number)?;
     Some(Spot {
         document,
         place: Place::Source(number),
-        subject: Subject::Source,
+        subject: source_subject(entry),
         table: entry.as_table(),
         entry: Some(entry),
         label: source_label(document.servers, entry),

@@ -17,6 +17,9 @@ use toml::{Table, Value};
 /// The greatest number of a unit.
 pub const MAX_NUMBER: u64 = 4_294_967_295;
 
+/// The greatest number of ticks that a source may list.
+const MAX_LISTED: usize = 1_000_000;
+
 /// The longest name of a server, in bytes.
 const MAX_NAME: usize = 32;
 
@@ -63,12 +66,62 @@ pub fn two_numbers(tick: Option<u64>, key: Key, value: &Value) -> Result<(i64, i
     Ok((whole(tick, key, least)?, whole(tick, key, greatest)?))
 }
 
-/// Returns the greatest jitter that a table may have, in a file with this tick: one tick less than its least `every`.
-/// Returns `None` if that is no number of ticks.
-pub(crate) fn most_jitter_of(tick: Option<u64>, table: &Table) -> Option<u64> {
+/// Returns one listed tick, rounded down, in a file with this tick.
+fn listed_tick(tick: Option<u64>, value: &Value) -> Result<u64, FileKind> {
+    within(0, LIMIT, ticks(tick, Rounding::Down, value)?)
+}
+
+/// Returns the least ticks from one listed tick to the next, or `None` if one is no number of ticks.
+fn least_gap(tick: Option<u64>, values: &[Value]) -> Option<u64> {
+    let mut before = None;
+    let mut least = LIMIT;
+    for value in values {
+        let listed = listed_tick(tick, value).ok()?;
+        if let Some(before) = before {
+            least = least.min(listed.saturating_sub(before));
+        }
+        before = Some(listed);
+    }
+    Some(least)
+}
+
+/// Returns the least ticks from one job of a table to the next, in a file with this tick, or `None` if that is no number of
+/// ticks.
+fn least_every(tick: Option<u64>, table: &Table) -> Option<u64> {
+    if let Some(listed) = optional(table, "at") {
+        return least_gap(tick, listed.as_array()?);
+    }
     let every = two_numbers(tick, EVERY, optional(table, "every")?).ok()?;
-    let least = within(1, LIMIT, every.0).ok()?;
-    Some(least.saturating_sub(1))
+    within(1, LIMIT, every.0).ok()
+}
+
+/// Returns the greatest jitter that a table may have, in a file with this tick: one tick less than the least to the next
+/// job. Returns `None` if that is no number of ticks.
+pub(crate) fn most_jitter_of(tick: Option<u64>, table: &Table) -> Option<u64> {
+    Some(least_every(tick, table)?.saturating_sub(1))
+}
+
+/// Returns the place, from 1, of the first value that is no tick to list: one out of range, or not later than the value
+/// before it. Returns `None` if there is none.
+pub fn first_bad_tick(tick: Option<u64>, values: &[Value]) -> Option<usize> {
+    let mut least = 0;
+    for (place, value) in values.iter().enumerate() {
+        match listed_tick(tick, value) {
+            Ok(listed) if listed >= least => least = listed.saturating_add(1),
+            _ => return Some(place + 1),
+        }
+    }
+    None
+}
+
+/// Tests that a value is an array of ticks, each later than the one before it.
+fn test_listed(tick: Option<u64>, value: &Value) -> Result<(), FileKind> {
+    let values = items(value)?;
+    sized(1, MAX_LISTED, values)?;
+    for value in values {
+        listed_tick(tick, value)?;
+    }
+    hold(first_bad_tick(tick, values).is_none())
 }
 
 /// Tests that two numbers are a range from `low` to `high`.
@@ -173,5 +226,6 @@ pub(crate) fn test(key: Key, value: &Value, spot: &Spot<'_>) -> Result<(), FileK
         Want::Bound => test_bound(value),
         Want::Tables(most) => test_count(most, value),
         Want::Units => test_units(value),
+        Want::Listed => test_listed(tick, value),
     }
 }

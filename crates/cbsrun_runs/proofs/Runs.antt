@@ -1,12 +1,10 @@
 -- The steps of a load, as a view sees them.
 use Rattle.std.proofs.Common.{◌≡◌, ◌⊎◌, ◌∙◌, ℕ, List, [], ◌++◌, ap, inl, sym, None, refl}
 use Rattle.std.proofs.lemmas.List.{append-nil}
-use Rattle.cbsrun_loads.specs.Loads.{LoadFile}
+use Rattle.cbsrun_loads.specs.Loads.{LoadFile, releases_of}
 use Rattle.cbs_rate.specs.Plan.{Planned}
 use Rattle.cbs_rules.specs.declared.mode.Mode.{Mode}
-use Rattle.cbsrun_simulate.specs.Drawing.{released_by_all}
 use Rattle.cbsrun_simulate.specs.Loading.{loading, job_of}
-use Rattle.cbsrun_simulate.specs.Merging.{merged}
 use Rattle.cbsrun_simulate.specs.Moves.{Move, Simulation, after_moves, moves_of}
 use Rattle.cbsrun_simulate.proofs.Loop.{shown_before, shown_on}
 use Rattle.cbsrun_simulate.specs.Shown.{shown}
@@ -30,7 +28,7 @@ simulation modes plan backlog coming = record {
 -- a view sees it as it sees the load with these servers and releases
 pub same_seen : (f : LoadFile) (modes : List Mode) (plan : Planned) (backlog until : ℕ) (coming : List Release)
     → modes ≡ f.modes → plan ≡ f.plan → backlog ≡ f.backlog → until ≡ f.until
-    → coming ≡ merged (released_by_all 0 f.sources f.until f.seed)
+    → coming ≡ releases_of f
     → (let sim = simulation modes plan backlog coming in shown loading job_of sim (moves_of loading job_of until sim) [] ≡ seen_in f)
 same_seen f modes plan backlog until coming b c d e g = rw (b, c, d, e, g) refl
 

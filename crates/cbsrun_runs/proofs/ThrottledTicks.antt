@@ -3,14 +3,12 @@ use Rattle.std.proofs.Common.{◌≡◌, ℕ, zero, suc, ◌+◌, ◌-◌, ◌�
 use Rattle.std.proofs.Common.{subst, ◌∙◌, inl, inr}
 use Rattle.std.proofs.lemmas.Bool.Decides.{nat_tests}
 use Rattle.cbs_core.specs.Held.{CoreHeld}
-use Rattle.cbsrun_loads.specs.Loads.{LoadFile}
+use Rattle.cbsrun_loads.specs.Loads.{LoadFile, releases_of}
 use Rattle.cbs_rate.specs.Plan.{Planned}
 use Rattle.cbs_rules.specs.Rules.{Terms, clock_end}
 use Rattle.cbs_rules.specs.declared.mode.Mode.{Mode}
 use Rattle.cbsrun_simulate.specs.Loading.{loading, job_of}
 use Rattle.cbsrun_simulate.specs.MoveLaws.{AllMoves, ChargesOwed, IsGranted}
-use Rattle.cbsrun_simulate.specs.Drawing.{released_by_all}
-use Rattle.cbsrun_simulate.specs.Merging.{merged}
 use Rattle.cbsrun_simulate.specs.Moves.{Move, submit, run, pass, charge, step_of, Simulation, clock_of, after_move, after_moves, moves_of}
 use Rattle.cbsrun_simulate.specs.Shown.{seen_of, shown}
 use Rattle.cbsrun_events.specs.Steps.{answer_in, promised_in}
@@ -240,7 +238,7 @@ whole_if_made saw until sim new w v made = record {
 
 -- a simulation is that of the load with its servers and releases
 pub whole_of : (f : LoadFile) (modes : List Mode) (plan : Planned) (backlog until : ℕ) (coming : List Release)
-    → modes ≡ f.modes → plan ≡ f.plan → backlog ≡ f.backlog → until ≡ f.until → coming ≡ merged (released_by_all 0 f.sources f.until f.seed)
+    → modes ≡ f.modes → plan ≡ f.plan → backlog ≡ f.backlog → until ≡ f.until → coming ≡ releases_of f
     → IsWhole until (simulation modes plan backlog coming) → IsWhole f.until (start_of f)
 whole_of f modes plan backlog until coming a b c d e whole = rw (a, b, c, d, e) at whole
 

@@ -8,10 +8,8 @@ use Rattle.cbsrun_simulate.specs.declared.load_job.LoadJob.{LoadJob}
 use Rattle.cbs_steps.specs.Accounts.{face_of}
 use Rattle.cbs_steps.specs.Faces.{Face, is_active}
 use Rattle.cbs_steps.specs.History.{World, account, ticks, world_after}
-use Rattle.cbsrun_loads.specs.Loads.{LoadFile}
+use Rattle.cbsrun_loads.specs.Loads.{LoadFile, releases_of}
 use Rattle.cbsrun_simulate.specs.Bounds.{Bounds}
-use Rattle.cbsrun_simulate.specs.Drawing.{released_by_all}
-use Rattle.cbsrun_simulate.specs.Merging.{merged}
 use Rattle.cbsrun_simulate.specs.Shown.{shown}
 use Rattle.cbsrun_simulate.specs.declared.terms.SourceTerms.{SourceTerms}
 use Rattle.cbs_steps.specs.Setups.{history_of}
@@ -60,7 +58,7 @@ ticks_waiting until sim s = count_ticks (waits_at sim (moves_of loading job_of u
 abbrev pub start_of : LoadFile → Simulation LoadJob
 start_of f = record {
   history = history_of f.modes f.plan.rates f.backlog [];
-  coming = merged (released_by_all 0 f.sources f.until f.seed);
+  coming = releases_of f;
   owing = None;
 }
 

@@ -27,7 +27,13 @@ pub fn show_load<C, V: View<C>>(
     ensures stopped { OnErr result ((first : (V × C)) → V.saw first (view.old, lent.old) []
         → SawSome V.saw V.failed first (view.new, lent.new) (seen_in load.now)) }
 {
-    let mut releases = load_of(alloc, load.sources(), load.until(), load.seed())?;
+    let mut releases = load_of(
+        alloc,
+        load.sources(),
+        load.listed(),
+        load.until(),
+        load.seed(),
+    )?;
     match simulate_plan(
         alloc,
         load.plan(),

@@ -51,6 +51,7 @@ pub record IsCompleted (k : SketchFile) (all : Bool) (f : LoadFile) : Type 0 whe
   pub until : f.until ≡ k.until
   pub seed : f.seed ≡ k.seed
   pub sources : f.sources ≡ k.sources
+  pub listed : f.listed ≡ k.listed
 
 -- each job of the load is promised, and in time
 abbrev pub AreInTime : LoadFile → Type 0

@@ -99,7 +99,30 @@ fn are_same_sources(own: &[SourceTerms], others: &[SourceTerms]) -> bool
     true
 }
 
-/// Returns whether a load has the tick, the bound, the backlog, the end, the seed and the sources of a sketch.
+/// Returns whether two lists of ticks are the same.
+fn are_same_ticks(own: &[u64], others: &[u64]) -> bool
+    ensures { result ≡ true → own.now ≡ others.now }
+{
+    own == others
+}
+
+/// Returns whether the same ticks are listed of each of two lists of sources.
+fn are_same_listed(own: &[Vec<u64>], others: &[Vec<u64>]) -> bool
+    ensures { result ≡ true → map (λ v. v.items) own.now ≡ map (λ v. v.items) others.now }
+{
+    if own.len() != others.len() {
+        return false;
+    }
+    for (i, ticks) in own.iter().enumerate() {
+        if !are_same_ticks(ticks, &others[i]) {
+            return false;
+        }
+    }
+    true
+}
+
+/// Returns whether a load has the tick, the bound, the backlog, the end, the seed and the sources of a sketch, and the
+/// ticks that are listed of these.
 fn is_same_beside(load: &Load, sketch: &Sketch) -> bool
     ensures tick { result ≡ true → load.now.tick ≡ sketch.now.tick }
     ensures bound { result ≡ true → load.now.plan.bound ≡ sketch.now.bound }
@@ -107,6 +130,7 @@ fn is_same_beside(load: &Load, sketch: &Sketch) -> bool
     ensures until { result ≡ true → load.now.until ≡ sketch.now.until }
     ensures seed { result ≡ true → load.now.seed ≡ sketch.now.seed }
     ensures sources { result ≡ true → load.now.sources ≡ sketch.now.sources }
+    ensures listed { result ≡ true → load.now.listed ≡ sketch.now.listed }
 {
     load.tick() == sketch.tick()
         && load.plan().bound() == sketch.bound()
@@ -114,6 +138,7 @@ fn is_same_beside(load: &Load, sketch: &Sketch) -> bool
         && load.until() == sketch.until()
         && load.seed() == sketch.seed()
         && are_same_sources(load.sources(), sketch.sources())
+        && are_same_listed(load.listed(), sketch.listed())
 }
 
 /// Returns whether a load is a sketch with these reservations.

@@ -127,20 +127,59 @@ fn append_servers(
     Ok(())
 }
 
-/// Appends the keys of a source that may be left out, unless they say what holds without them.
+/// Appends a line with the ticks that a source lists.
+fn append_listed(text: &mut String, tick: Option<u64>, listed: &[u64]) -> Result<(), AllocError> {
+    text.push_str("at = [")?;
+    for (i, ticks) in listed.iter().enumerate() {
+        if i > 0 {
+            text.push_str(", ")?;
+        }
+        append_ticks(text, tick, *ticks)?;
+    }
+    text.push_str("]\n")
+}
+
+/// Appends the key that says when the jobs of a source come: at ticks that it lists, or so many ticks apart.
+fn append_arrivals(
+    text: &mut String,
+    tick: Option<u64>,
+    terms: &SourceTerms,
+    listed: &[u64],
+) -> Result<(), AllocError> {
+    if listed.is_empty() {
+        return append_range(text, "every", tick, terms.every);
+    }
+    append_listed(text, tick, listed)
+}
+
+/// Appends the keys that say when a source begins and ends, unless it lists its ticks, or they say what holds without
+/// them.
+fn append_ends(
+    text: &mut String,
+    tick: Option<u64>,
+    terms: &SourceTerms,
+    listed: &[u64],
+) -> Result<(), AllocError> {
+    if !listed.is_empty() {
+        return Ok(());
+    }
+    if terms.first > 0 {
+        append_time(text, "first", tick, terms.first)?;
+    }
+    if let Some(jobs) = terms.jobs {
+        append_number(text, "jobs", jobs)?;
+    }
+    Ok(())
+}
+
+/// Appends the other keys of a source that may be left out, unless they say what holds without them.
 fn append_optional(
     text: &mut String,
     tick: Option<u64>,
     terms: &SourceTerms,
 ) -> Result<(), AllocError> {
-    if terms.first > 0 {
-        append_time(text, "first", tick, terms.first)?;
-    }
     if terms.jitter > 0 {
         append_time(text, "jitter", tick, terms.jitter)?;
-    }
-    if let Some(jobs) = terms.jobs {
-        append_number(text, "jobs", jobs)?;
     }
     if let Some(within) = terms.within {
         append_time(text, "within", tick, within)?;
@@ -151,25 +190,36 @@ fn append_optional(
     Ok(())
 }
 
-/// Appends a source for a server of this name.
+/// Appends a source for a server of this name, which lists these ticks, if any.
 fn append_source(
     text: &mut String,
     tick: Option<u64>,
     name: &str,
     terms: &SourceTerms,
+    listed: &[u64],
 ) -> Result<(), AllocError> {
     text.push_str("\n[[source]]\n")?;
     append_word(text, "server", name)?;
-    append_range(text, "every", tick, terms.every)?;
+    append_arrivals(text, tick, terms, listed)?;
     append_range(text, "units", tick, terms.units)?;
+    append_ends(text, tick, terms, listed)?;
     append_optional(text, tick, terms)
+}
+
+/// Returns the ticks that are listed of a source, none if they are drawn.
+fn listed_of(listed: &[Vec<u64>], source: usize) -> &[u64] {
+    match listed.get(source) {
+        Some(ticks) => ticks,
+        None => &[],
+    }
 }
 
 /// Appends the sources.
 fn append_sources(text: &mut String, sketch: &Sketch) -> Result<(), AllocError> {
-    for terms in sketch.sources() {
+    let listed = sketch.listed();
+    for (i, terms) in sketch.sources().iter().enumerate() {
         let name = &sketch.names()[usize::from(terms.server)];
-        append_source(text, sketch.tick(), name, terms)?;
+        append_source(text, sketch.tick(), name, terms, listed_of(listed, i))?;
     }
     Ok(())
 }

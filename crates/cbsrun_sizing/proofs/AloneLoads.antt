@@ -5,7 +5,7 @@ use Rattle.std.specs.List.{AllByRecursion}
 use Rattle.std.proofs.lemmas.List.Sums.{sum_by-cons}
 use Rattle.std.proofs.lemmas.Option.{slice_get-map}
 use Rattle.cbs_lists.proofs.Lists.{AllByRecursion-weaker}
-use Rattle.cbsrun_loads.specs.Loads.{LoadFile, IsLoad, IsSource}
+use Rattle.cbsrun_loads.specs.Loads.{LoadFile, releases_of, IsLoad, IsSource}
 use Rattle.cbs_rate.specs.Plan.{IsPlan}
 use Rattle.cbs_rate.specs.Rate.{Rate}
 use Rattle.cbs_steps.specs.History.{Setup}
@@ -18,9 +18,7 @@ use Rattle.cbs_guarantee.specs.declared.source.Source.{Source}
 use Rattle.cbs_guarantee.proofs.Guarantees.{guaranteed_of}
 use Rattle.cbs_guarantee.proofs.Steps.{no_jobs}
 use Rattle.cbs_guarantee.proofs.Streams.{reserved}
-use Rattle.cbsrun_simulate.specs.Drawing.{released_by_all}
 use Rattle.cbsrun_simulate.specs.Loading.{loading, job_of}
-use Rattle.cbsrun_simulate.specs.Merging.{merged}
 use Rattle.cbsrun_simulate.specs.MoveLaws.{AllMoves}
 use Rattle.cbsrun_simulate.specs.Moves.{Simulation, moves_of}
 use Rattle.cbsrun_simulate.specs.Released.{IsOfSource, least_distance}
@@ -69,7 +67,7 @@ module _ (f : LoadFile) (load : IsLoad f) (plan : IsPlan f.plan) (s within : ℕ
   source = one.source
 
   abbrev releases : List Release
-  releases = merged (released_by_all 0 f.sources f.until f.seed)
+  releases = releases_of f
 
   abbrev released : ℕ → ℕ
   released = tick_at s f.until (own_releases s releases)
@@ -134,7 +132,7 @@ module _ (f : LoadFile) (load : IsLoad f) (plan : IsPlan f.plan) (s within : ℕ
       let early = AllByRecursion-weaker (IsOfSource f.until 0 f.sources) (λ r. r.tick < f.until) releases (releases_are f load) (λ r h. h.is.early) in
       let apart = one.apart in
       record {
-        order = ticks_grow s f.until releases (all_in_order f.until f.seed 0 f.sources) early;
+        order = ticks_grow s f.until releases (all_in_order f.until f.seed 0 f.listed f.sources) early;
         laws = λ steps. guaranteed_of loading (record { setup = setup; steps = steps })
             (λ steps. plan_punctual loading f.plan f.modes f.backlog plan load.moded steps);
         most = λ t ne. passed_more s f.sources t 0 0 ne (omega arith);
@@ -148,7 +146,7 @@ module _ (f : LoadFile) (load : IsLoad f) (plan : IsPlan f.plan) (s within : ℕ
       }
 
   going : IsGoing loading job_of f.until load.few_ticks 0 sim
-  going = record { early = omega arith; waited = omega arith; order = all_in_order f.until f.seed 0 f.sources; owed = λ lt c e. cc }
+  going = record { early = omega arith; waited = omega arith; order = all_in_order f.until f.seed 0 f.listed f.sources; owed = λ lt c e. cc }
 
   start : IsAloneKept f.until load.few_ticks s released (least_distance f.sources) (most_charged f.sources) source.units source.overrun source.every passed
       (delay_of f s) (IsOwnSource s f.sources) 0 sim

@@ -9,7 +9,7 @@ use Rattle.std.proofs.lemmas.List.Elements.{recursion_from_All}
 use Rattle.std.proofs.lemmas.Nat.{mul-le}
 use Rattle.std.proofs.lemmas.Option.{get_or_from_slice_get, slice_get_within}
 use Rattle.cbs_lists.proofs.Lists.{AllByRecursion-weaker, AllByRecursion-mapped}
-use Rattle.cbsrun_loads.specs.Loads.{LoadFile, IsLoad, IsSource}
+use Rattle.cbsrun_loads.specs.Loads.{LoadFile, releases_of, IsLoad, IsSource}
 use Rattle.cbs_rate.specs.Plan.{IsPlan}
 use Rattle.cbs_rate.specs.Rate.{Rate}
 use Rattle.cbs_rules.specs.declared.mode.Mode.{Mode}
@@ -24,9 +24,7 @@ use Rattle.cbs_guarantee.specs.Streams.{no_stream, new_streams, all_spans}
 use Rattle.cbs_guarantee.proofs.Guarantees.{guaranteed_of}
 use Rattle.cbs_guarantee.proofs.Overruns.{span-mono}
 use Rattle.cbs_guarantee.proofs.Steps.{no_jobs}
-use Rattle.cbsrun_simulate.specs.Drawing.{released_by_all}
 use Rattle.cbsrun_simulate.specs.Loading.{loading, job_of}
-use Rattle.cbsrun_simulate.specs.Merging.{merged}
 use Rattle.cbsrun_simulate.specs.MoveLaws.{AllMoves}
 use Rattle.cbsrun_simulate.specs.Moves.{Simulation, moves_of}
 use Rattle.cbsrun_simulate.specs.Released.{HasRanges, IsOfSource, AreApart, distance, least_distance}
@@ -89,17 +87,18 @@ module _ (f : LoadFile) (load : IsLoad f) where
       (λ t h. (h.lawful.some_units, h.ranges))
 
   -- and of their releases
-  pub releases_are : AllByRecursion (IsOfSource f.until 0 f.sources) (merged (released_by_all 0 f.sources f.until f.seed))
-  releases_are = merged_are f.until f.seed 0 f.sources drawable
+  pub releases_are : AllByRecursion (IsOfSource f.until 0 f.sources) (releases_of f)
+  releases_are = merged_are f.until f.seed 0 f.listed f.sources drawable
 
-  pub releases_apart : AreApart (least_distance f.sources) (merged (released_by_all 0 f.sources f.until f.seed))
-  releases_apart = merged_apart (least_distance f.sources) f.until f.seed 0 f.sources drawable
-      (AllByRecursion-weaker (IsSource (length f.plan.rates)) (λ t. 0 < distance t) f.sources lawful_sources (λ t h. let little = h.lawful.little_jitter in omega arith))
+  pub releases_apart : AreApart (least_distance f.sources) (releases_of f)
+  releases_apart = merged_apart (least_distance f.sources) f.until f.seed 0 f.listed f.sources drawable
+      (AllByRecursion-weaker (IsSource (length f.plan.rates)) (λ t. t.jitter < t.every.least) f.sources lawful_sources (λ t h. h.lawful.little_jitter))
       (λ j t e. let z : 0 + j ≡ j = omega arith in rw z (least_at f.sources j t e))
+      (λ j t e. let z : 0 + j ≡ j = omega arith in rw z (load.listed j t e))
 
-  pub overruns_within : AllByRecursion (λ r. r.overrun ≤ most_charged f.sources r.server) (merged (released_by_all 0 f.sources f.until f.seed))
+  pub overruns_within : AllByRecursion (λ r. r.overrun ≤ most_charged f.sources r.server) (releases_of f)
   overruns_within = AllByRecursion-weaker (IsOfSource f.until 0 f.sources) (λ r. r.overrun ≤ most_charged f.sources r.server)
-      (merged (released_by_all 0 f.sources f.until f.seed)) releases_are
+      (releases_of f) releases_are
       (λ r h.
       let at = charged_at r.server f.sources h.place 0 h.terms h.stands (sym h.is.server) in
       let le = h.is.overrun in
@@ -129,7 +128,7 @@ module _ (f : LoadFile) (load : IsLoad f) (plan : IsPlan f.plan) (s within : ℕ
   rates = streams_of rate (sources_of s f.sources)
 
   abbrev releases : List Release
-  releases = merged (released_by_all 0 f.sources f.until f.seed)
+  releases = releases_of f
 
   abbrev place : ℕ → ℕ
   place = place_of s f.sources
@@ -196,7 +195,7 @@ module _ (f : LoadFile) (load : IsLoad f) (plan : IsPlan f.plan) (s within : ℕ
       let sum : within ≡ all_spans rates + delay_of f s + passed = omega arith in
       record {
         ok = promised.bearable;
-        order = ticks_grow s f.until releases (all_in_order f.until f.seed 0 f.sources) early;
+        order = ticks_grow s f.until releases (all_in_order f.until f.seed 0 f.listed f.sources) early;
         enough = rw sum at promised.enough;
         laws = λ steps. guaranteed_of loading (record { setup = setup; steps = steps })
             (λ steps. plan_punctual loading f.plan f.modes f.backlog plan load.moded steps);
@@ -207,7 +206,7 @@ module _ (f : LoadFile) (load : IsLoad f) (plan : IsPlan f.plan) (s within : ℕ
       }
 
   going : IsGoing loading job_of f.until load.few_ticks 0 sim
-  going = record { early = omega arith; waited = omega arith; order = all_in_order f.until f.seed 0 f.sources; owed = λ lt c e. cc }
+  going = record { early = omega arith; waited = omega arith; order = all_in_order f.until f.seed 0 f.listed f.sources; owed = λ lt c e. cc }
 
   start : IsKept f.until load.few_ticks s released of place (least_distance f.sources) (most_charged f.sources) rates passed (delay_of f s)
       (IsOwnSource s f.sources) 0 sim

@@ -1,10 +1,8 @@
 -- No server of a simulation is later than the greatest delay.
 use Rattle.std.proofs.Common.{◌≡◌, ℕ, List, [], ◌∷◌, arith, refl, subst, None}
-use Rattle.cbsrun_loads.specs.Loads.{LoadFile, IsLoad}
+use Rattle.cbsrun_loads.specs.Loads.{LoadFile, releases_of, IsLoad}
 use Rattle.cbs_rate.specs.Plan.{IsPlan}
-use Rattle.cbsrun_simulate.specs.Drawing.{released_by_all}
 use Rattle.cbsrun_simulate.specs.Loading.{loading, job_of}
-use Rattle.cbsrun_simulate.specs.Merging.{merged}
 use Rattle.cbsrun_simulate.specs.MoveLaws.{AllMoves, since_after}
 use Rattle.cbsrun_simulate.specs.Moves.{Move, Simulation, after_move, AreNext, moves_of}
 use Rattle.cbsrun_simulate.specs.declared.load_job.LoadJob.{LoadJob}
@@ -42,12 +40,12 @@ module _ (f : LoadFile) (load : IsLoad f) (plan : IsPlan f.plan) where
       )
 
   abbrev sim : Simulation LoadJob
-  sim = record { history = record { setup = setup; steps = [] }; coming = merged (released_by_all 0 f.sources f.until f.seed); owing = None }
+  sim = record { history = record { setup = setup; steps = [] }; coming = releases_of f; owing = None }
 
   pub lateness_kept : AllMoves loading job_of IsEarly sim (moves_of loading job_of f.until sim)
   lateness_kept =
       let going : IsGoing loading job_of f.until load.few_ticks 0 sim =
-      record { early = omega arith; waited = omega arith; order = all_in_order f.until f.seed 0 f.sources; owed = λ lt c e. cc } in
+      record { early = omega arith; waited = omega arith; order = all_in_order f.until f.seed 0 f.listed f.sources; owed = λ lt c e. cc } in
       late_moves 0 sim (moves_of loading job_of f.until sim) refl going
       (bounded_new (most_charged f.sources) f.until (terms_of f.modes f.plan.rates) f.backlog sim.coming (overruns_within f load)) tt
       (moves_are loading job_of f.until load.few_ticks 0 sim going).each

@@ -12,8 +12,8 @@ use Rattle.cbsrun_runs.proofs.load_steps.show_load.Goals as goal
 pub returns-in-Ok-clause-seen : goal.returns-in-Ok-clause-seen
 returns-in-Ok-clause-seen g c = λ first was.
     let f = c.args.load.now in
-    let releases : map pending c.in_ok-releases.releases ≡ released_by_all 0 f.sources f.until f.seed =
-    rw (← c.sources.ensures.value, ← c.until.ensures.value, ← c.seed.ensures) c.in_ok-releases.ensures in
+    let releases : map pending c.in_ok-releases.releases ≡ released_by_all 0 f.sources f.listed f.until f.seed =
+    rw (← c.sources.ensures.value, ← c.listed.ensures.value, ← c.until.ensures.value, ← c.seed.ensures) c.in_ok-releases.ensures in
     let same = same_seen f c.modes.result.now c.plan.result.now c.backlog.result c.until-2.result (merged (map pending c.in_ok-releases.releases))
     c.modes.ensures c.plan.ensures c.backlog.ensures.value c.until-2.ensures.value (ap merged releases) in
     rw (← same) (c.in-Ok.ensures.simulates.simulates.seen first [] was)
@@ -22,8 +22,8 @@ returns-in-Ok-clause-seen g c = λ first was.
 abbrev whole : (g : given.Over) (c : After-drop-releases g) → IsWhole c.args.load.now.until (start_of c.args.load.now)
 whole g c =
     let f = c.args.load.now in
-    let releases : map pending c.in_ok-releases.releases ≡ released_by_all 0 f.sources f.until f.seed =
-    rw (← c.sources.ensures.value, ← c.until.ensures.value, ← c.seed.ensures) c.in_ok-releases.ensures in
+    let releases : map pending c.in_ok-releases.releases ≡ released_by_all 0 f.sources f.listed f.until f.seed =
+    rw (← c.sources.ensures.value, ← c.listed.ensures.value, ← c.until.ensures.value, ← c.seed.ensures) c.in_ok-releases.ensures in
     let coming = merged (map pending c.in_ok-releases.releases) in
     whole_of f c.modes.result.now c.plan.result.now c.backlog.result c.until-2.result coming c.modes.ensures c.plan.ensures c.backlog.ensures.value
     c.until-2.ensures.value (ap merged releases)
@@ -39,8 +39,8 @@ returns-in-Ok-clause-in_order g c = in_order c.args.load.now c.sources.ensures.l
 pub returns-clause-stopped : goal.returns-clause-stopped
 returns-clause-stopped g c = λ first was.
     let f = c.args.load.now in
-    let releases : map pending c.in_ok-releases.releases ≡ released_by_all 0 f.sources f.until f.seed =
-    rw (← c.sources.ensures.value, ← c.until.ensures.value, ← c.seed.ensures) c.in_ok-releases.ensures in
+    let releases : map pending c.in_ok-releases.releases ≡ released_by_all 0 f.sources f.listed f.until f.seed =
+    rw (← c.sources.ensures.value, ← c.listed.ensures.value, ← c.until.ensures.value, ← c.seed.ensures) c.in_ok-releases.ensures in
     let coming = merged (map pending c.in_ok-releases.releases) in
     let sim = simulation c.modes.result.now c.plan.result.now c.backlog.result coming in
     let h = c.in-Err.ensures.stopped in
