@@ -1,8 +1,6 @@
--- Rows and notes by their parts, and texts that are appended.
-use Rattle.std.proofs.Common.{◌≡◌, ℕ, ◌<◌, List, [], ◌++◌, ◌+◌, length, get_or, refl, sym, ap, ◌∙◌, Option, Result, Ok, Err}
-use Rattle.std.specs.Prelude.{map, if◌then◌else◌}
-use Rattle.std.specs.Result.{OnOk, is_ok}
-use Rattle.std.specs.declared.alloc.AllocError.{AllocError}
+-- Rows and notes by their parts.
+use Rattle.std.proofs.Common.{◌≡◌, ℕ, ◌<◌, List, [], ◌++◌, ◌+◌, length, get_or, refl, sym, ap, ◌∙◌, Option}
+use Rattle.std.specs.Prelude.{map}
 use Rattle.std.specs.List.{flat_map, range_with_len}
 use Rattle.std.proofs.lemmas.List.{append_assoc, get_or-map}
 use Rattle.cbs_rate.specs.Rate.{Rate}
@@ -48,15 +46,3 @@ pub source_row_is : (tick : Option ℕ) (names : List (List ℕ)) (rates : List 
     → get_or names t.server [] ≡ name → rate_at rates t.server ≡ rate → get_or loads t.server no_load ≡ load
     → row_of tick names rates loads t ≡ source_row tick name rate load.promised t
 source_row_is tick names rates loads t name rate load e f g = rw (e, f, g) refl
-
--- what a text is after a last word is pushed
-pub pushed : (r : Result (Unit {0}) AllocError) (new old word whole : List ℕ) → new ≡ (if is_ok r then old ++ word else old) → old ++ word ≡ whole
-    → OnOk r (new ≡ whole)
-pushed (Ok x) new old word whole e f = e ∙ f
-pushed (Err x) new old word whole e f = tt
-
--- what a text is after a last part is appended
-pub appended : (r : Result (Unit {0}) AllocError) (new old part whole : List ℕ) → OnOk r (new ≡ old ++ part) → old ++ part ≡ whole
-    → OnOk r (new ≡ whole)
-appended (Ok x) new old part whole e f = e ∙ f
-appended (Err x) new old part whole e f = tt

@@ -4,13 +4,13 @@
 ghost use Rattle.std.specs.Prelude.{◌≡◌, ◌++◌, ◌<◌, ◌≤◌, length, Some, IfSome, IfOk, OnOk, string_bytes};
 ghost use Rattle.cbsrun_sizing.specs.ServerLoads.{AreServerLoads};
 ghost use Rattle.cbsrun_check_text.specs.Tables.{optional_text};
-ghost use Rattle.cbsrun_check_text.specs.Notes.{IsSummed, late_text, unfinished_text, why_text, reason_text, demand_text, asked_text, backlog_text, fit_text, kept_text, proposal_text, found_text, none_text, reservation_text, remedy_text, note_text, notes_text, set_off};
+ghost use Rattle.cbsrun_check_text.specs.Notes.{IsSummed, late_text, unfinished_text, why_text, reason_text, demand_text, asked_text, note_text, notes_text, set_off};
 
 use crate::fractions::append_fraction;
 use cbs_guarantee::NotPromised;
 use cbs_rate::Reservation;
 use cbsrun_loads::Load;
-use cbsrun_proposals::{Proposal, Remedy};
+use cbsrun_remedy_texts::append_remedy;
 use cbsrun_sizing::{Asked, ServerLoad, least_within};
 use cbsrun_text::append_pair;
 use cbsrun_time_texts::{append_ticks, append_time};
@@ -128,133 +128,6 @@ fn append_asked(
         (Err(NotPromised::AsksTooMuch), Some(asked)) => append_demand(text, rate, asked),
         _ => Ok(()),
     }
-}
-
-/// Appends a backlog that would do, if there is one.
-#[tactic(auto, unfolding(crate::specs::Notes::backlog_text))]
-fn append_backlog(text: &mut String, backlog: Option<u64>) -> Result<(), AllocError>
-    ensures { OnOk result (string_bytes text.new ≡ string_bytes text.old
-        ++ backlog_text backlog) }
-{
-    let Some(backlog) = backlog else {
-        return Ok(());
-    };
-    append_pair(text, "      a backlog of ", backlog)?;
-    text.push_str(" would do\n")
-}
-
-/// Appends whether a budget fits, if there is room for so much at its period.
-#[tactic(auto, unfolding(crate::specs::Notes::fit_text))]
-fn append_fit(
-    text: &mut String,
-    tick: Option<u64>,
-    budget: u64,
-    room: u64,
-) -> Result<(), AllocError>
-    ensures { OnOk result (string_bytes text.new ≡ string_bytes text.old
-        ++ fit_text tick budget room) }
-{
-    if budget <= room {
-        return text.push_str(", and fits\n");
-    }
-    text.push_str(", but at most ")?;
-    append_time(text, tick, room)?;
-    text.push_str(" fits\n")
-}
-
-/// Appends the `within` that a source has to say besides, if there is one.
-#[tactic(auto, unfolding(crate::specs::Notes::kept_text))]
-fn append_kept(text: &mut String, tick: Option<u64>, kept: Option<u64>) -> Result<(), AllocError>
-    ensures { OnOk result (string_bytes text.new ≡ string_bytes text.old ++ kept_text tick kept) }
-{
-    let Some(within) = kept else {
-        return Ok(());
-    };
-    text.push_str(", with within = ")?;
-    append_time(text, tick, within)?;
-    text.push_str(",")
-}
-
-/// Appends a budget in every period, and what has to be said besides.
-#[tactic(auto, unfolding(crate::specs::Notes::proposal_text))]
-fn append_proposal(
-    text: &mut String,
-    tick: Option<u64>,
-    reservation: Proposal,
-    kept: Option<u64>,
-) -> Result<(), AllocError>
-    ensures { OnOk result (string_bytes text.new ≡ string_bytes text.old
-        ++ proposal_text tick reservation kept) }
-{
-    text.push_str("      ")?;
-    append_time(text, tick, reservation.budget)?;
-    text.push_str(" in every ")?;
-    append_time(text, tick, reservation.period)?;
-    append_kept(text, tick, kept)
-}
-
-/// Appends that no reservation was found, or that none would do, since the others may delay the jobs so long.
-#[tactic(auto, unfolding(crate::specs::Notes::none_text))]
-fn append_none(text: &mut String, tick: Option<u64>, delayed: Option<u64>) -> Result<(), AllocError>
-    ensures { OnOk result (string_bytes text.new ≡ string_bytes text.old
-        ++ none_text tick delayed) }
-{
-    let Some(delay) = delayed else {
-        return text.push_str("      no reservation that was tried would do\n");
-    };
-    text.push_str("      no reservation would do: units of others may delay it by ")?;
-    append_time(text, tick, delay)?;
-    text.push_str("\n")
-}
-
-/// Appends a reservation that would do, and whether it fits.
-#[tactic(auto, unfolding(crate::specs::Notes::found_text))]
-fn append_found(
-    text: &mut String,
-    tick: Option<u64>,
-    reservation: Proposal,
-    kept: Option<u64>,
-    room: u64,
-) -> Result<(), AllocError>
-    ensures { OnOk result (string_bytes text.new ≡ string_bytes text.old
-        ++ found_text tick reservation kept room) }
-{
-    append_proposal(text, tick, reservation, kept)?;
-    text.push_str(" would do")?;
-    append_fit(text, tick, reservation.budget, room)
-}
-
-/// Appends a reservation that would do, and whether it fits, or that there is none.
-fn append_reservation(
-    text: &mut String,
-    tick: Option<u64>,
-    remedy: Remedy,
-    kept: Option<u64>,
-    room: u64,
-) -> Result<(), AllocError>
-    ensures { OnOk result (string_bytes text.new ≡ string_bytes text.old
-        ++ reservation_text tick remedy kept room) }
-{
-    match remedy.reservation {
-        Some(reservation) => append_found(text, tick, reservation, kept, room),
-        None => append_none(text, tick, remedy.delayed),
-    }
-}
-
-/// Appends what would do.
-#[tactic(auto, unfolding(crate::specs::Notes::remedy_text))]
-fn append_remedy(
-    text: &mut String,
-    tick: Option<u64>,
-    remedy: Remedy,
-    kept: Option<u64>,
-    room: u64,
-) -> Result<(), AllocError>
-    ensures { OnOk result (string_bytes text.new ≡ string_bytes text.old
-        ++ remedy_text tick remedy kept room) }
-{
-    append_backlog(text, remedy.backlog)?;
-    append_reservation(text, tick, remedy, kept, room)
 }
 
 /// Appends the first line of a note: why the jobs of a server are not promised in time.

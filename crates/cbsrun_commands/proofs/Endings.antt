@@ -8,7 +8,7 @@ use Rattle.cbsrun_runs.specs.Runs.{IsPictureOf}
 use Rattle.cbsrun_runs.specs.Tasks.{clock_of_tasks, run_of_tasks}
 use Rattle.cbsrun_command_line.specs.declared.actions.Drawing.{Drawing}
 use Rattle.cbsrun_command_line.specs.declared.actions.Form.{Form}
-use Rattle.cbsrun_commands.specs.Outputs.{IsRunText, IsTaskReportText, IsDrawingOf}
+use Rattle.cbsrun_commands.specs.Outputs.{IsTaskReportText, IsDrawingOf}
 use Rattle.cbsrun_window.specs.declared.window.Window.{Window}
 use Rattle.cbsrun_lines.specs.Writers.{Writer, IsUntouched}
 use Rattle.cbsrun_lines.specs.declared.run_error.RunError.{RunError}
@@ -38,9 +38,8 @@ pub same_file : (bytes : List ℕ) (f h : File) → file bytes ≡ Ok f → file
 same_file bytes f h p q = let same : f ≡ h = cc in ap clock_of_tasks same
 
 -- the report, and the picture, of a task file are those of its run
-pub told_of : (form : Form) (name : List ℕ) (r f : File) (text : List ℕ) → r ≡ f → IsRunText form name (run_of_tasks r) text
-    → IsTaskReportText form name f text
-told_of form name r f text is told = subst (λ (g : File). IsRunText form name (run_of_tasks g) text) is told
+pub told_of : (form : Form) (name : List ℕ) (r f : File) (text : List ℕ) → r ≡ f → IsTaskReportText form name r text → IsTaskReportText form name f text
+told_of form name r f text is told = subst (λ (g : File). IsTaskReportText form name g text) is told
 
 pub drawn_of : (drawing : Drawing) (name : List ℕ) (w : Window) (r f : File) (text : List ℕ) → r ≡ f
     → IsDrawingOf drawing (IsPictureOf name (run_of_tasks r) w) text → IsDrawingOf drawing (IsPictureOf name (run_of_tasks f) w) text

@@ -1,5 +1,5 @@
 -- What each command reads, and what it prints.
-use Rattle.std.specs.Prelude.{ℕ, Bool, true, false, if◌then◌else◌, List, length, get_or, unwrap_or, Option, Some, None, Result, ◌≡◌, Ok, Err}
+use Rattle.std.specs.Prelude.{ℕ, Bool, true, false, if◌then◌else◌, List, [], ◌++◌, length, get_or, unwrap_or, Option, Some, None, Result, ◌≡◌, Ok, Err}
 use Rattle.std.specs.List.{list_all}
 use Rattle.cbsrun_command_line.specs.declared.actions.Changes.{Changes}
 use Rattle.cbs_guarantee.specs.declared.source.NotPromised.{NotPromised}
@@ -12,7 +12,11 @@ use Rattle.cbsrun_check_json.specs.Json.{IsCheckJson, IsPlanJson}
 use Rattle.cbsrun_check_text.specs.Checks.{IsLoadText, IsPlanText}
 use Rattle.cbsrun_csv.specs.Csv.{IsCsv}
 use Rattle.cbsrun_tasks.specs.Spelling.{file}
-use Rattle.cbsrun_loads.specs.Spelling.{is_load, load}
+use Rattle.cbsrun_loads.specs.Spelling.{is_load, load, load_in}
+use Rattle.cbsrun_roundings.specs.Tables.{load_roundings}
+use Rattle.cbsrun_toml_tables.specs.Documents.{at, document}
+use Rattle.cbsrun_toml_tables.specs.declared.fault.Place.TheVariants.{Top}
+use Rattle.toml.specs.Data.{Members}
 use Rattle.cbsrun_commands.specs.declared.check.AnyFile.{AnyFile}
 use Rattle.cbsrun_commands.specs.declared.check.AnyFile.TheVariants.{Load, Tasks}
 use Rattle.cbsrun_toml_tables.specs.Fields.{◌>>=◌, seen}
@@ -42,21 +46,29 @@ use Rattle.cbsrun_perfetto.specs.Traces.{IsTrace}
 use Rattle.cbsrun_command_line.specs.declared.actions.Drawing.{Drawing}
 use Rattle.cbsrun_command_line.specs.declared.actions.Drawing.TheVariants.{Svg, Text, Trace}
 
+-- the load of a top table, and what is told of its times that are no whole number of ticks
+abbrev pub checked_load : Members → Result AnyFile FileFault
+checked_load table = seen (λ f. Load f (load_roundings f.tick table)) (load_in table)
+
 -- the file that the bytes spell: a load if the top table has the key `load`, else a task file
 unfoldable pub any_file : List ℕ → Result AnyFile FileFault
 any_file bytes = do
   is ← is_load bytes
-  if is then seen Load (load bytes) else seen Tasks (file bytes)
+  if is then at Top (document bytes) >>= checked_load else seen Tasks (file bytes)
+
+-- the text is what `check` prints about a load, with what is told of its times that are no whole number of ticks
+abbrev pub IsLoadCheck : LoadFile → List ℕ → List ℕ → Type 0
+IsLoadCheck f rounded text = (told : List ℕ) × IsLoadText f told × (text ≡ told ++ rounded)
 
 -- the text is what `check` prints about the file
 abbrev pub IsCheckText : AnyFile → List ℕ → Type 0
-IsCheckText (Load f) text = IsLoadText f text
+IsCheckText (Load f rounded) text = IsLoadCheck f rounded text
 IsCheckText (Tasks f) text = IsPlanText f.plan f.modes text
 
 -- the text is what `check` prints about the file in this form, and names the file so
 abbrev pub IsCheckIn : Form → List ℕ → AnyFile → List ℕ → Type 0
 IsCheckIn Report name f text = IsCheckText f text
-IsCheckIn Json name (Load f) text = IsCheckJson name f text
+IsCheckIn Json name (Load f rounded) text = IsCheckJson name f text
 IsCheckIn Json name (Tasks f) text = IsPlanJson name f.plan f.modes text
 
 -- the command that prints what it finds in a file of either kind
@@ -79,7 +91,7 @@ AreSourcesPromised f answer =
 
 -- the same of a file of either kind. A task file has no source
 abbrev pub ArePromised : AnyFile → Bool → Type 0
-ArePromised (Load f) answer = AreSourcesPromised f answer
+ArePromised (Load f rounded) answer = AreSourcesPromised f answer
 ArePromised (Tasks f) answer = answer ≡ true
 
 -- the load with what takes the place of its own seed and its own end
@@ -110,23 +122,33 @@ IsJobsText f text = IsCsv f.names f.until (seen_in f) text × IsKept f
 abbrev pub jobs_command : Changes → Command LoadFile
 jobs_command changes = printing_command (changed_load changes) IsJobsText
 
--- a report in a form
-abbrev pub text_in : Form → RunReport → List ℕ
-text_in Report r = report_text r
-text_in Json r = report_json r
+-- a report in a form, with what `check` tells of the servers, which only a text tells
+abbrev pub text_in : Form → RunReport → List ServerLoad → List ℕ
+text_in Report r loads = report_text r loads
+text_in Json r loads = report_json r
 
--- the text is that of a report of the run in this form, and names the file so
-abbrev pub IsRunText : Form → List ℕ → Shown → List ℕ → Type 0
-IsRunText form name run text = (r : RunReport) × IsReportOf name run r × (text ≡ text_in form r)
+-- the text is that of a report of the run in this form, and names the file so. What `check` tells of the servers has this
+-- property
+abbrev pub IsRunText : Form → List ℕ → Shown → (RunReport → List ServerLoad → Type 0) → List ℕ → Type 0
+IsRunText form name run are text =
+    (r : RunReport) × (loads : List ServerLoad) × IsReportOf name run r × are r loads × (text ≡ text_in form r loads)
+
+-- what a report of a load tells of its servers besides the run: what `check` tells of them, if a text tells it, and if one
+-- is not in time
+abbrev pub AreTold : Form → Bool → LoadFile → List ServerLoad → Type 0
+AreTold Report false f loads = AreServerLoads f (length f.plan.rates) loads
+AreTold Report true f loads = loads ≡ []
+AreTold Json in_time f loads = loads ≡ []
 
 -- the text is that of a report of the load in this form, and names the file so. What is told of each load holds of this
 -- one
 abbrev pub IsReportText : Form → List ℕ → LoadFile → List ℕ → Type 0
-IsReportText form name f text = IsRunText form name (run_of f) text × IsKept f
+IsReportText form name f text =
+    IsRunText form name (run_of f) (λ r loads. AreTold form (all_in_time r.servers.items) f loads) text × IsKept f
 
--- the text is that of a report of the task file in this form, and names the file so
+-- the text is that of a report of the task file in this form, and names the file so. Nothing is told besides its run
 abbrev pub IsTaskReportText : Form → List ℕ → File → List ℕ → Type 0
-IsTaskReportText form name f text = IsRunText form name (run_of_tasks f) text
+IsTaskReportText form name f text = IsRunText form name (run_of_tasks f) (λ r loads. loads ≡ []) text
 
 -- whether each job of the run was in time, by a report of it
 abbrev pub IsRunInTime : List ℕ → Shown → Bool → Type 0

@@ -1,11 +1,12 @@
 //! The command `check`: from the bytes of a load or a task file to a status.
 
 ghost use Rattle.std.specs.Prelude.{◌≡◌, IfOk, Ok, get_or, string_bytes};
+ghost use Rattle.toml.specs.View.{table_view};
 ghost use Rattle.cbsrun_sizing.specs.ServerLoads.{no_load};
 ghost use Rattle.cbsrun_commands.specs.declared.check.AnyFile.{AnyFile};
 ghost use Rattle.cbsrun_toml_tables.specs.Documents.{no_memory};
 ghost use Rattle.cbsrun_toml_tables.specs.Fields.{Gives};
-ghost use Rattle.cbsrun_commands.specs.Outputs.{all_promised, any_file, check_command, is_promised, ArePromised, AreSourcesPromised, IsCheckIn, IsCheckText};
+ghost use Rattle.cbsrun_commands.specs.Outputs.{all_promised, any_file, check_command, checked_load, is_promised, ArePromised, AreSourcesPromised, IsCheckIn, IsCheckText, IsLoadCheck};
 ghost use Rattle.cbsrun_commands.specs.Commands.{Does, EndsByAnswer};
 ghost use Rattle.cbsrun_command_line.specs.declared.actions.Form.TheVariants.{Json};
 ghost use Rattle.cbsrun_lines.specs.Writers.{MayWrite};
@@ -17,18 +18,33 @@ use cbsrun_check_text::{check_load, check_plan};
 use cbsrun_command_line::Form;
 use cbsrun_io::ByteOutput;
 use cbsrun_loads::{Load, load_in};
+use cbsrun_roundings::RoundingsText;
 use cbsrun_simulate::SourceTerms;
 use cbsrun_sizing::{ServerLoad, is_within, server_loads};
 use cbsrun_tasks::{FileFault, Found, TaskFile, find_within};
+use cbsrun_toml_tables::{FileKind, Place, faulty};
 use std::alloc::{AllocError, Global};
+use toml::Table;
 
 /// A file of either kind.
 #[derive(Drop)]
 enum AnyFile {
-    /// A load.
-    Load(Load),
+    /// A load, and what is told of its times that are no whole number of ticks.
+    Load(Load, RoundingsText),
     /// A task file.
     Tasks(TaskFile),
+}
+
+/// Returns the load that a top table spells, and what is told of its times that are no whole number of ticks; or the first
+/// fault.
+fn checked_load(alloc: Global, table: &Table) -> Result<AnyFile, FileFault>
+    ensures { Gives no_memory (λ f. f) result (checked_load (table_view table.now)) }
+{
+    let load = load_in(alloc, table)?;
+    let Ok(rounded) = RoundingsText::of(alloc, load.tick(), table) else {
+        return Err(faulty(Place::Top, FileKind::OutOfMemory));
+    };
+    Ok(AnyFile::Load(load, rounded))
 }
 
 /// Returns the file that the bytes spell, or its first fault. If it has to be read as one document that needs more than
@@ -39,8 +55,17 @@ fn read_any(alloc: Global, memory: u64, bytes: &[u8]) -> Result<AnyFile, FileFau
 {
     match find_within(alloc, memory, bytes).into_result()? {
         Found::Tasks(file) => Ok(AnyFile::Tasks(file)),
-        Found::Load(table) => Ok(AnyFile::Load(load_in(alloc, &table)?)),
+        Found::Load(table) => checked_load(alloc, &table),
     }
+}
+
+/// Returns the text that `check` prints about a load, with what is told of its times that are no whole number of ticks.
+fn load_text(alloc: Global, load: &Load, rounded: &RoundingsText) -> Result<String, AllocError>
+    ensures { IfOk result (λ text. IsLoadCheck load.now rounded.now (string_bytes text)) }
+{
+    let mut text = check_load(alloc, load)?;
+    text.push_str(rounded.text())?;
+    Ok(text)
 }
 
 /// Returns the text that `check` prints about a file.
@@ -48,7 +73,7 @@ fn check_text(alloc: Global, file: &AnyFile) -> Result<String, AllocError>
     ensures { IfOk result (λ text. IsCheckText file.now (string_bytes text)) }
 {
     match file {
-        AnyFile::Load(load) => check_load(alloc, load),
+        AnyFile::Load(load, rounded) => load_text(alloc, load, rounded),
         AnyFile::Tasks(file) => check_plan(alloc, file.plan(), file.modes()),
     }
 }
@@ -58,7 +83,7 @@ fn check_object(alloc: Global, name: &str, file: &AnyFile) -> Result<String, All
     ensures { IfOk result (λ text. IsCheckIn Json name.now file.now (string_bytes text)) }
 {
     match file {
-        AnyFile::Load(load) => check_json(alloc, name, load),
+        AnyFile::Load(load, _) => check_json(alloc, name, load),
         AnyFile::Tasks(file) => check_plan_json(alloc, name, file.plan(), file.modes()),
     }
 }
@@ -113,7 +138,7 @@ fn are_promised(alloc: Global, file: &AnyFile) -> Result<bool, AllocError>
     ensures { IfOk result (ArePromised file.now) }
 {
     match file {
-        AnyFile::Load(load) => sources_are_promised(alloc, load),
+        AnyFile::Load(load, _) => sources_are_promised(alloc, load),
         AnyFile::Tasks(_) => Ok(true),
     }
 }

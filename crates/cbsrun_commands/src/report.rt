@@ -1,11 +1,11 @@
 //! Reports of the runs of loads and task files: from their bytes to a status.
 
-ghost use Rattle.std.specs.Prelude.{◌≡◌, ◌≤◌, IfOk, Ok, length, string_bytes};
+ghost use Rattle.std.specs.Prelude.{◌≡◌, ◌≤◌, [], IfOk, Ok, length, string_bytes};
 ghost use Rattle.cbsrun_report_json.specs.Json.{all_in_time};
 ghost use Rattle.cbsrun_loads.specs.Loads.{LoadFile};
 ghost use Rattle.cbsrun_commands.specs.Commands.{Does, EndsAs, EndsByAnswer};
 ghost use Rattle.cbsrun_commands.specs.FaultLines.{Prints};
-ghost use Rattle.cbsrun_commands.specs.Outputs.{changed_load, load_report, task_report, IsInTime, IsRunInTime, IsRunText, text_in};
+ghost use Rattle.cbsrun_commands.specs.Outputs.{changed_load, load_report, task_report, AreTold, IsInTime, IsReportText, IsRunText, text_in};
 ghost use Rattle.cbsrun_lines.specs.Writers.{MayWrite};
 
 use crate::ending::{Stopped, print, status_by_answer, status_of};
@@ -13,18 +13,26 @@ use crate::reading::{load_file, task_file};
 use cbsrun_command_line::{Form, LoadReport};
 use cbsrun_io::ByteOutput;
 use cbsrun_lines::RunError;
+use cbsrun_loads::Load;
 use cbsrun_report_json::report_json;
 use cbsrun_report_text::{RunReport, report_text};
 use cbsrun_runs::{NoProgress, Progress, Replay, Run, report_of};
+use cbsrun_sizing::{ServerLoad, server_loads};
 use std::alloc::{AllocError, Global};
 
-/// Returns the text of a report of at most 64 servers, in this form.
-fn text_of(alloc: Global, form: Form, report: &RunReport) -> Result<String, AllocError>
+/// Returns the text of a report of at most 64 servers, in this form. `loads` has what `check` tells of each server of a
+/// load, and is empty for a task file.
+fn text_of(
+    alloc: Global,
+    form: Form,
+    report: &RunReport,
+    loads: &[ServerLoad],
+) -> Result<String, AllocError>
     requires { length report.now.servers.items ≤ 64 }
-    ensures { IfOk result (λ text. string_bytes text ≡ text_in form report.now) }
+    ensures { IfOk result (λ text. string_bytes text ≡ text_in form report.now loads.now) }
 {
     match form {
-        Form::Report => report_text(alloc, report),
+        Form::Report => report_text(alloc, report, loads),
         Form::Json => report_json(alloc, report),
     }
 }
@@ -36,26 +44,76 @@ fn all_in_time(report: &RunReport) -> bool
     report.servers.iter().all(|server| server.is_in_time())
 }
 
-/// Makes the steps of a run, and prints its report in this form. The report names the file `name`. Returns whether each
-/// job of the run was in time.
-fn print_report<R: Run, P: Progress, O: ByteOutput>(
+/// Prints a report of at most 64 servers in this form, with what `check` tells of the servers.
+fn print_report<O: ByteOutput>(
+    alloc: Global,
+    form: Form,
+    report: &RunReport,
+    loads: &[ServerLoad],
+    out: &mut O,
+) -> Result<(), RunError>
+    requires writes { MayWrite (O.state out.old) }
+    requires few { length report.now.servers.items ≤ 64 }
+    ensures { Prints (λ text. text ≡ text_in form report.now loads.now) result
+        (O.state out.old) (O.state out.new) }
+{
+    let text = text_of(alloc, form, report, loads)?;
+    print(&text, out)
+}
+
+/// Makes the steps of a run, and prints its report in this form, with nothing besides the run. The report names the file
+/// `name`.
+fn print_run<R: Run, O: ByteOutput>(
     alloc: Global,
     form: Form,
     name: &str,
     run: &mut R,
+    out: &mut O,
+) -> Result<(), RunError>
+    requires { MayWrite (O.state out.old) }
+    ensures { Prints (IsRunText form name.now (R.run run.old) (λ r loads. loads ≡ [])) result
+        (O.state out.old) (O.state out.new) }
+{
+    let report = report_of(alloc, name, run, &mut NoProgress)?;
+    print_report(alloc, form, &report, &[], out)
+}
+
+/// Returns what `check` tells of each server of a load, if a report in this form tells it: if it is a text, and if a
+/// server is not in time.
+fn loads_told(
+    alloc: Global,
+    form: Form,
+    load: &Load,
+    in_time: bool,
+) -> Result<Vec<ServerLoad>, AllocError>
+    ensures { IfOk result (λ loads. AreTold form in_time load.now loads.items) }
+{
+    match (form, in_time) {
+        (Form::Report, false) => server_loads(alloc, load),
+        _ => Ok(Vec::new(alloc)),
+    }
+}
+
+/// Simulates a load, and prints the report of its run in this form. The report names the file `name`. Returns whether each
+/// job of the run was in time.
+fn print_load<P: Progress, O: ByteOutput>(
+    alloc: Global,
+    form: Form,
+    name: &str,
+    load: &mut Load,
     progress: &mut P,
     out: &mut O,
 ) -> Result<bool, RunError>
     requires { MayWrite (O.state out.old) }
-    ensures printed { Prints (λ text. IsRunText form name.now (R.run run.old) text
-        × R.lawful run.old) result
+    ensures printed { Prints (IsReportText form name.now load.old) result
         (O.state out.old) (O.state out.new) }
-    ensures answer { IfOk result (IsRunInTime name.now (R.run run.old)) }
+    ensures answer { IfOk result (IsInTime name.now load.old) }
 {
-    let report = report_of(alloc, name, run, progress)?;
-    let text = text_of(alloc, form, &report)?;
-    print(&text, out)?;
-    Ok(all_in_time(&report))
+    let report = report_of(alloc, name, load, progress)?;
+    let in_time = all_in_time(&report);
+    let loads = loads_told(alloc, form, load, in_time)?;
+    print_report(alloc, form, &report, &loads, out)?;
+    Ok(in_time)
 }
 
 /// Makes the steps of the task file that the bytes spell, and prints the report of its run in this form.
@@ -73,7 +131,7 @@ fn report_tasks<O: ByteOutput>(
 {
     let tasks = task_file(alloc, memory, bytes)?;
     let mut replay = Replay::of(tasks);
-    print_report(alloc, form, name, &mut replay, &mut NoProgress, out)?;
+    print_run(alloc, form, name, &mut replay, out)?;
     Ok(())
 }
 
@@ -123,7 +181,7 @@ fn report_load<P: Progress, O: ByteOutput>(
         × (changed_load asked.changes bytes.now ≡ Ok f) × IsInTime name.now f answer) }
 {
     let mut load = load_file(alloc, memory, asked.changes, bytes)?;
-    let in_time = print_report(alloc, asked.form, name, &mut load, progress, out)?;
+    let in_time = print_load(alloc, asked.form, name, &mut load, progress, out)?;
     Ok(in_time)
 }
 

@@ -1,7 +1,7 @@
--- The elements that pass a test, from the first one on, and the pieces of those that pass.
+-- The elements that pass a test, from the first one on.
 use Rattle.std.proofs.Common.{◌≡◌, ◌∙◌, ℕ, zero, suc, ◌+◌, ◌<◌, ◌≤◌, Bool, true, false, not, cond, ltb, List}
-use Rattle.std.proofs.Common.{[], ◌∷◌, ◌++◌, length, get_or, drop, Some, None, refl, sym, ap, add-one, arith}
-use Rattle.std.specs.Prelude.{filter, flat_map, position}
+use Rattle.std.proofs.Common.{[], ◌∷◌, length, get_or, drop, Some, None, refl, sym, ap, add-one, arith}
+use Rattle.std.specs.Prelude.{filter, position}
 use Rattle.std.specs.List.{position_or_len}
 use Rattle.std.proofs.Math.Seq.{drop-cons}
 use Rattle.std.proofs.lemmas.Bool.Decides.{nat_tests}
@@ -43,13 +43,3 @@ none_passes p (x ∷ xs) h = none_more x (filter p xs) (length xs) (position_or_
 -- if no place passes, nothing is left
 pub filter_from_no_position : {X : Type 0} (p : X → Bool) (xs : List X) → position p xs ≡ None → filter p xs ≡ []
 filter_from_no_position p xs is = none_passes p xs (past_all (position_or_len p xs) (length xs) is)
-
--- the pieces of the elements that pass
-piece_more : {X : Type 0} (f : X → List ℕ) (x : X) (rest : List X) (b : Bool) → flat_map f (cond b (x ∷ rest) rest) ≡ cond b (f x) [] ++ flat_map f rest
-piece_more f x rest true = refl
-piece_more f x rest false = refl
-
--- pieces of what passes, and pieces of all of which some are empty, are one text
-pub filtered_pieces : {X : Type 0} (p : X → Bool) (f : X → List ℕ) (xs : List X) → flat_map f (filter p xs) ≡ flat_map (λ x. cond (p x) (f x) []) xs
-filtered_pieces p f [] = refl
-filtered_pieces p f (x ∷ xs) = piece_more f x (filter p xs) (p x) ∙ ap (λ t. cond (p x) (f x) [] ++ t) (filtered_pieces p f xs)

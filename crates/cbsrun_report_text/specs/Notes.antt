@@ -1,11 +1,13 @@
 -- The verdict of a report, and the notes below its tables.
 use Rattle.std.specs.List.{fold}
 use Rattle.std.specs.Prelude.{ℕ, Bool, ◌&&◌, bytes_eq, eqb, not, if◌then◌else◌, List, [], ◌∷◌, ◌++◌, codes, decimal, filter, length, string_bytes, ◌+◌, ◌*◌, ◌||◌, ltb}
-use Rattle.std.specs.Prelude.{flat_map, Option, Some, None}
+use Rattle.std.specs.Prelude.{slice_get, Option, Some, None}
 use Rattle.cbsrun_figures.specs.declared.figures.Figures.{Figures}
 use Rattle.cbsrun_report_text.specs.Reports.{accepted, released, late, is_in_time, sum_of}
 use Rattle.cbsrun_report_text.specs.declared.report.ServerReport.{ServerReport}
 use Rattle.std.specs.Int.{div_ceil}
+use Rattle.cbsrun_remedy_texts.specs.Remedies.{remedy_text}
+use Rattle.cbsrun_sizing.specs.declared.server_load.ServerLoad.{ServerLoad}
 use Rattle.cbsrun_time_texts.specs.Texts.{time_text}
 use Rattle.cbsrun_report_text.specs.Numbers.{great_text, percent_text}
 
@@ -103,22 +105,44 @@ unfoldable pub enough_text : Option ℕ → Option ServerReport → List ℕ
 enough_text tick other =
     codes "      that is enough: " ++ delay_if tick other ++ codes "its jobs come in bursts, or less time is wanted than they take\n"
 
--- which budget would cover what a server was asked for, or that it has enough
-abbrev pub remedy_text : Option ℕ → ℕ → List ServerReport → ServerReport → List ℕ
-remedy_text tick clock servers s =
-    if ltb (s.reservation.budget * clock) (wanted s * s.reservation.period)
-    then cover_text tick (cover_of (wanted s) s.reservation.period clock) s.reservation.period
-    else enough_text tick (delaying s servers)
+-- what would do, as `check` tells it, if something is needed
+abbrev pub would_do_text : Option ℕ → ServerLoad → List ℕ
+would_do_text tick l = elim l.remedy [ None ↦ [] | Some m ↦ remedy_text tick m l.kept l.room ]
 
--- the note of one of these servers that is not in time
-unfoldable pub note_text : Option ℕ → ℕ → List ServerReport → ServerReport → List ℕ
-note_text tick clock servers s = asked_text clock s ++ remedy_text tick clock servers s
+-- .. of a server of a load
+abbrev pub load_text : Option ℕ → Option ServerLoad → List ℕ
+load_text tick None = []
+load_text tick (Some l) = would_do_text tick l
+
+-- what would do for a server that was asked for more than it has: of a server of a load what `check` tells, and of one of a
+-- task file which budget would cover what it was asked for
+abbrev pub short_text : Option ℕ → Option ℕ → ℕ → Option ServerLoad → List ℕ
+short_text tick cover period None = cover_text tick cover period
+short_text tick cover period (Some l) = would_do_text tick l
+
+-- why a server is not in time although it has enough, or else nothing; and what would do
+abbrev pub advice_text : Option ℕ → ℕ → List ServerReport → ServerReport → Option ServerLoad → List ℕ
+advice_text tick clock servers s load =
+    if ltb (s.reservation.budget * clock) (wanted s * s.reservation.period)
+    then short_text tick (cover_of (wanted s) s.reservation.period clock) s.reservation.period load
+    else enough_text tick (delaying s servers) ++ load_text tick load
+
+-- the note of one of these servers that is not in time. What `check` tells of it is known if it is a server of a load
+unfoldable pub note_text : Option ℕ → ℕ → List ServerReport → ServerReport → Option ServerLoad → List ℕ
+note_text tick clock servers s load = asked_text clock s ++ advice_text tick clock servers s load
 
 -- the note of a server, if it is not in time
-abbrev pub note_if_wrong : Option ℕ → ℕ → List ServerReport → ServerReport → List ℕ
-note_if_wrong tick clock servers s = if is_wrong s then note_text tick clock servers s else []
+abbrev pub note_if_wrong : Option ℕ → ℕ → List ServerReport → ServerReport → Option ServerLoad → List ℕ
+note_if_wrong tick clock servers s load = if is_wrong s then note_text tick clock servers s load else []
 
--- an empty line and the notes of some of these servers, if there are any
-abbrev pub notes_text : Option ℕ → ℕ → List ServerReport → List ServerReport → List ℕ
-notes_text tick clock servers [] = []
-notes_text tick clock servers (s ∷ wrong) = codes "\n" ++ flat_map (note_text tick clock servers) (s ∷ wrong)
+-- the notes of the servers `rest`, the first of which is number n of all these servers
+unfoldable pub notes_from : Option ℕ → ℕ → List ServerReport → List ServerLoad → ℕ → List ServerReport → List ℕ
+notes_from tick clock servers loads n [] = []
+notes_from tick clock servers loads n (s ∷ rest) =
+    note_if_wrong tick clock servers s (slice_get loads n) ++ notes_from tick clock servers loads (n + 1) rest
+
+-- an empty line and the notes of the servers that are not in time, if there are any. `loads` has what `check` tells of each
+-- server of a load, and is empty for a task file
+abbrev pub notes_text : Option ℕ → ℕ → List ServerReport → List ServerLoad → List ServerReport → List ℕ
+notes_text tick clock servers loads [] = []
+notes_text tick clock servers loads (s ∷ wrong) = codes "\n" ++ notes_from tick clock servers loads 0 servers

@@ -1,6 +1,7 @@
 -- The whole report as text.
 use Rattle.std.specs.Prelude.{ℕ, eqb, if◌then◌else◌, List, [], ◌++◌, codes, decimal, string_bytes}
 use Rattle.cbsrun_text.specs.Columns.{CellText, columns_text}
+use Rattle.cbsrun_sizing.specs.declared.server_load.ServerLoad.{ServerLoad}
 use Rattle.cbsrun_report_text.specs.Notes.{notes_text, not_in_time, verdict_text}
 use Rattle.cbsrun_report_text.specs.Numbers.{percent_text}
 use Rattle.cbsrun_report_text.specs.Reports.{sum_of}
@@ -33,6 +34,8 @@ tables_text r =
     ++ table_text (early_table r.tick r.servers.items)
     ++ charges_text r
 
--- the whole report
-abbrev pub report_text : RunReport → List ℕ
-report_text r = verdict_text r.servers.items ++ codes "\n" ++ summary_text r ++ tables_text r ++ notes_text r.tick r.clock r.servers.items (not_in_time r.servers.items)
+-- the whole report. `loads` has what `check` tells of each server of a load, and is empty for a task file
+abbrev pub report_text : RunReport → List ServerLoad → List ℕ
+report_text r loads =
+    verdict_text r.servers.items ++ codes "\n" ++ summary_text r ++ tables_text r
+    ++ notes_text r.tick r.clock r.servers.items loads (not_in_time r.servers.items)

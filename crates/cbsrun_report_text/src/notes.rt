@@ -1,12 +1,14 @@
 //! Notes on what to do about servers that are not in time.
 
-ghost use Rattle.std.specs.Prelude.{◌≡◌, ◌++◌, ◌≤◌, ◌^◌, ◌<◌, option_map, OnOk, string_bytes};
+ghost use Rattle.std.specs.Prelude.{◌≡◌, ◌++◌, ◌≤◌, ◌^◌, ◌<◌, option_map, slice_get, OnOk, string_bytes};
 ghost use Rattle.cbs_rate.specs.Limits.{longest_period};
-ghost use Rattle.cbsrun_report_text.specs.Notes.{asked_text, cover_of, cover_text, delaying, delays_more, delay_if, delay_text, enough_text, remedy_text, note_if_wrong, notes_text, not_in_time};
+ghost use Rattle.cbsrun_report_text.specs.Notes.{asked_text, cover_of, cover_text, delaying, delays_more, delay_if, delay_text, enough_text, would_do_text, load_text, short_text, advice_text, note_if_wrong, notes_text, not_in_time};
 
 use crate::numbers::{Percent, append_great};
 use crate::report::ServerReport;
 use crate::verdict::count_wrong;
+use cbsrun_remedy_texts::append_remedy;
+use cbsrun_sizing::ServerLoad;
 use cbsrun_time_texts::append_time;
 use std::alloc::AllocError;
 use std::fmt::Write;
@@ -138,24 +140,69 @@ fn append_enough(
     text.push_str("its jobs come in bursts, or less time is wanted than they take\n")
 }
 
-/// Appends which budget would cover what a server was asked for, or that the server has enough.
-fn append_remedy(
+/// Appends what would do for a server, as `check` tells it, if something is needed.
+fn append_would_do(text: &mut String, tick: Option<u64>, load: ServerLoad) -> Result<(), AllocError>
+    ensures { OnOk result (string_bytes text.new ≡ string_bytes text.old
+        ++ would_do_text tick load) }
+{
+    match load.remedy {
+        Some(remedy) => append_remedy(text, tick, remedy, load.kept, load.room),
+        None => Ok(()),
+    }
+}
+
+/// Appends what would do for a server of a load, as `check` tells it, if something is needed.
+fn append_load(
+    text: &mut String,
+    tick: Option<u64>,
+    load: Option<ServerLoad>,
+) -> Result<(), AllocError>
+    ensures { OnOk result (string_bytes text.new ≡ string_bytes text.old ++ load_text tick load) }
+{
+    match load {
+        Some(load) => append_would_do(text, tick, load),
+        None => Ok(()),
+    }
+}
+
+/// Appends what would do for a server that was asked for more than it has: of a server of a load what `check` tells, and
+/// of one of a task file which budget would cover what it was asked for.
+fn append_short(
+    text: &mut String,
+    tick: Option<u64>,
+    cover: Option<u128>,
+    period: u64,
+    load: Option<ServerLoad>,
+) -> Result<(), AllocError>
+    ensures { OnOk result (string_bytes text.new ≡ string_bytes text.old
+        ++ short_text tick cover period load) }
+{
+    match load {
+        Some(load) => append_would_do(text, tick, load),
+        None => append_cover(text, tick, cover, period),
+    }
+}
+
+/// Appends why a server is not in time if it has enough, and what would do.
+fn append_advice(
     text: &mut String,
     tick: Option<u64>,
     clock: u64,
     servers: &[ServerReport],
     server: &ServerReport,
+    load: Option<ServerLoad>,
 ) -> Result<(), AllocError>
     ensures { OnOk result (string_bytes text.new ≡ string_bytes text.old
-        ++ remedy_text tick clock servers.now server.now) }
+        ++ advice_text tick clock servers.now server.now load) }
 {
     let period = server.reservation.period();
     let wanted = server.wanted();
     let share = u128::from(server.reservation.budget()) * u128::from(clock);
     if share < wanted * u128::from(period) {
-        return append_cover(text, tick, cover_of(wanted, period, clock), period);
+        return append_short(text, tick, cover_of(wanted, period, clock), period, load);
     }
-    append_enough(text, tick, delaying(servers, server))
+    append_enough(text, tick, delaying(servers, server))?;
+    append_load(text, tick, load)
 }
 
 /// Appends the note of one of these servers, if it is not in time.
@@ -166,33 +213,43 @@ fn append_note(
     clock: u64,
     servers: &[ServerReport],
     server: &ServerReport,
+    load: Option<ServerLoad>,
 ) -> Result<(), AllocError>
     ensures { OnOk result (string_bytes text.new ≡ string_bytes text.old
-        ++ note_if_wrong tick clock servers.now server.now) }
+        ++ note_if_wrong tick clock servers.now server.now load) }
 {
     if server.is_in_time() {
         return Ok(());
     }
     append_asked(text, clock, server)?;
-    append_remedy(text, tick, clock, servers, server)
+    append_advice(text, tick, clock, servers, server, load)
 }
 
-/// Appends an empty line and the notes of the servers that are not in time, if there are any.
+/// Returns what `check` tells of a server, or `None` if the server is none of a load.
+fn load_of(loads: &[ServerLoad], server: usize) -> Option<ServerLoad>
+    ensures { result ≡ slice_get loads.now server }
+{
+    loads.get(server).copied()
+}
+
+/// Appends an empty line and the notes of the servers that are not in time, if there are any. `loads` has what `check`
+/// tells of each server of a load, and is empty for a task file.
 pub(crate) fn append_notes(
     text: &mut String,
     tick: Option<u64>,
     clock: u64,
     servers: &[ServerReport],
+    loads: &[ServerLoad],
 ) -> Result<(), AllocError>
     ensures { OnOk result (string_bytes text.new ≡ string_bytes text.old
-        ++ notes_text tick clock servers.now (not_in_time servers.now)) }
+        ++ notes_text tick clock servers.now loads.now (not_in_time servers.now)) }
 {
     if count_wrong(servers) == 0 {
         return Ok(());
     }
     text.push_str("\n")?;
-    for server in servers {
-        append_note(text, tick, clock, servers, server)?;
+    for (at, server) in servers.iter().enumerate() {
+        append_note(text, tick, clock, servers, server, load_of(loads, at))?;
     }
     Ok(())
 }

@@ -10,6 +10,7 @@ use crate::report::RunReport;
 use crate::tables::{charges_table, early_table, jobs_table, response_table, ticks_table};
 use crate::totals::Total;
 use crate::verdict::append_verdict;
+use cbsrun_sizing::ServerLoad;
 use cbsrun_text::{Cell, append_columns};
 use std::alloc::{AllocError, Global};
 use std::fmt::Write;
@@ -84,17 +85,24 @@ fn append_tables(alloc: Global, text: &mut String, report: &RunReport) -> Result
     append_charges(alloc, text, report)
 }
 
-/// Returns a report as text: a verdict, a summary, tables, and notes on the servers that are not in time. The only
-/// error is out of memory.
-pub fn report_text(alloc: Global, report: &RunReport) -> Result<String, AllocError>
+/// Returns a report as text: a verdict, a summary, tables, and notes on the servers that are not in time.
+///
+/// `loads` has the figures of each server of a load, as `check` tells them, and is empty for a task file. The note of a
+/// server with figures says what would do for it, as `check` says it. The note of another says which budget would cover
+/// what the server was asked for. The only error is out of memory.
+pub fn report_text(
+    alloc: Global,
+    report: &RunReport,
+    loads: &[ServerLoad],
+) -> Result<String, AllocError>
     requires few { length report.now.servers.items ≤ 64 }
-    ensures { IfOk result (λ text. string_bytes text ≡ report_text report.now) }
+    ensures { IfOk result (λ text. string_bytes text ≡ report_text report.now loads.now) }
 {
     let mut text = String::new(alloc);
     append_verdict(&mut text, &report.servers)?;
     text.push_str("\n")?;
     append_summary(&mut text, report)?;
     append_tables(alloc, &mut text, report)?;
-    append_notes(&mut text, report.tick, report.clock, &report.servers)?;
+    append_notes(&mut text, report.tick, report.clock, &report.servers, loads)?;
     Ok(text)
 }

@@ -15,7 +15,7 @@ use std::process::Abort;
 fn text_of(rt: &impl Abort, alloc: Global, run: &Run) -> String {
     let report = report_of(rt, alloc, run);
     assert!(rt; report.servers.len() <= 64);
-    report_text(alloc, &report).ok().expect(rt, "memory")
+    report_text(alloc, &report, &[]).ok().expect(rt, "memory")
 }
 
 /// The second server of the robot, as it ran beside a logging that is asked for less.

@@ -1,7 +1,7 @@
 use Rattle.std.proofs.Common.{string_bytes}
 use Rattle.std.proofs.lemmas.List.{append_assoc}
 use Rattle.cbsrun_check_text.specs.Checks.{tick_text, together_text}
-use Rattle.cbsrun_check_text.proofs.Texts.{appended}
+use Rattle.cbsrun_remedy_texts.proofs.Texts.{appended}
 use Rattle.cbsrun_check_text.proofs.check.append_together.Goals as goal
 
 pub returns : goal.returns

@@ -2,7 +2,7 @@ use Rattle.std.proofs.Common.{◌≡◌, false, eqb, codes, string_bytes, arith}
 use Rattle.std.proofs.lemmas.Bool.Decides.{nat_tests}
 use Rattle.std.proofs.lemmas.List.{append_assoc}
 use Rattle.cbsrun_check_text.specs.Checks.{late_by_text}
-use Rattle.cbsrun_check_text.proofs.Texts.{pushed}
+use Rattle.cbsrun_remedy_texts.proofs.Texts.{pushed}
 use Rattle.cbsrun_check_text.proofs.lateness.append_late_by.Goals as goal
 
 pub returns : goal.returns

@@ -1,7 +1,7 @@
 use Rattle.std.proofs.Common.{codes, string_bytes}
 use Rattle.std.proofs.lemmas.List.{append_assoc}
 use Rattle.cbsrun_check_text.specs.Notes.{late_text}
-use Rattle.cbsrun_check_text.proofs.Texts.{pushed}
+use Rattle.cbsrun_remedy_texts.proofs.Texts.{pushed}
 use Rattle.cbsrun_check_text.proofs.notes.append_late.Goals as goal
 
 pub returns : goal.returns

@@ -1,35 +1,13 @@
 use Rattle.std.proofs.Common.{◌∙◌}
 use Rattle.cbsrun_lines.proofs.Writers.{untouched}
-use Rattle.cbsrun_lines.specs.Writers.{IsUntouched}
-use Rattle.cbsrun_commands.proofs.Endings.{stops_as}
+use Rattle.cbsrun_commands.proofs.Endings.{prints_as}
 use Rattle.std.proofs.lemmas.Result.{err_from_is_err_and}
 use Rattle.cbsrun_commands.proofs.report.print_report.Goals as goal
 
-pub returns-in_err-report-clause-printed : goal.returns-in_err-report-clause-printed
-returns-in_err-report-clause-printed g c =
+pub returns-in_err-text : goal.returns-in_err-text
+returns-in_err-text g c =
     let p = err_from_is_err_and c.from_residual.result c.from_residual.ensures.1 in
     rw (p.1, p.2) (untouched _)
 
-pub returns-in_err-text-clause-printed : goal.returns-in_err-text-clause-printed
-returns-in_err-text-clause-printed g c =
-    let p = err_from_is_err_and c.from_residual-in_err-text.result c.from_residual-in_err-text.ensures.1 in
-    rw (p.1, p.2) (untouched _)
-
-pub returns-in_err-print-clause-printed : goal.returns-in_err-print-clause-printed
-returns-in_err-print-clause-printed g c =
-    let p = err_from_is_err_and c.from_residual-in_err-print.result c.from_residual-in_err-print.ensures.1 in
-    rw (p.1, p.2) (stops_as _ _ (λ t e. (
-      (c.in_ok-report.report, c.in_ok-report.ensures.report, e ∙ (c.deref.ensures ∙ c.in_ok-text.ensures)),
-      c.in_ok-report.ensures.lawful,
-    )) IsUntouched _ _ _ c.in_err-print.ensures)
-
-pub returns-clause-printed : goal.returns-clause-printed
-returns-clause-printed g c =
-    let p = c.in_ok-print.ensures in (
-      p.0,
-      ((c.in_ok-report.report, c.in_ok-report.ensures.report, p.1 ∙ (c.deref.ensures ∙ c.in_ok-text.ensures)), c.in_ok-report.ensures.lawful),
-      p.2,
-    )
-
-pub returns-clause-answer : goal.returns-clause-answer
-returns-clause-answer g c = (c.in_ok-report.report, c.in_ok-report.ensures.report, c.all_in_time.ensures)
+pub returns : goal.returns
+returns g c = prints_as _ _ (λ t e. e ∙ (c.deref.ensures ∙ c.in_ok-text.ensures)) c.print.result _ _ c.print.ensures

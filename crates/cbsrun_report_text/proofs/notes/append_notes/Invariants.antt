@@ -1,7 +1,9 @@
-use Rattle.std.proofs.Common.{◌≡◌, ◌++◌, take, codes, string_bytes}
-use Rattle.std.specs.Prelude.{flat_map}
-use Rattle.cbsrun_report_text.specs.Notes.{note_if_wrong}
+use Rattle.std.proofs.Common.{◌≡◌, ◌++◌, drop, codes, string_bytes}
+use Rattle.cbsrun_report_text.specs.Notes.{notes_from}
 use Rattle.cbsrun_report_text.proofs.notes.append_notes.Given as goal
 
-abbrev pub invariant-loop-server : goal.invariant-loop-server
-invariant-loop-server l = string_bytes l.text ≡ string_bytes l.fn.text ++ (codes "\n" ++ flat_map (note_if_wrong l.tick l.clock l.servers) (take l.server-index l.servers))
+-- what is written, and the notes of the servers to come
+abbrev pub invariant-loop-at : goal.invariant-loop-at
+invariant-loop-at l =
+    string_bytes l.text ++ notes_from l.tick l.clock l.servers l.loads l.at (drop l.at l.servers)
+    ≡ string_bytes l.fn.text ++ (codes "\n" ++ notes_from l.tick l.clock l.servers l.loads 0 l.servers)

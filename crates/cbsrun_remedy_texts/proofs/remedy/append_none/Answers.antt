@@ -1,8 +1,8 @@
 use Rattle.std.proofs.Common.{codes, string_bytes}
 use Rattle.std.proofs.lemmas.List.{append_assoc}
-use Rattle.cbsrun_check_text.specs.Notes.{none_text}
-use Rattle.cbsrun_check_text.proofs.Texts.{pushed}
-use Rattle.cbsrun_check_text.proofs.notes.append_none.Goals as goal
+use Rattle.cbsrun_remedy_texts.specs.Remedies.{none_text}
+use Rattle.cbsrun_remedy_texts.proofs.Texts.{pushed}
+use Rattle.cbsrun_remedy_texts.proofs.remedy.append_none.Goals as goal
 
 pub returns : goal.returns
 unfolding none_text

@@ -1,9 +1,9 @@
 use Rattle.std.proofs.Common.{◌≡◌, leb, false, codes, string_bytes, arith}
 use Rattle.std.proofs.lemmas.Bool.Decides.{nat_tests}
 use Rattle.std.proofs.lemmas.List.{append_assoc}
-use Rattle.cbsrun_check_text.specs.Notes.{fit_text}
-use Rattle.cbsrun_check_text.proofs.Texts.{pushed}
-use Rattle.cbsrun_check_text.proofs.notes.append_fit.Goals as goal
+use Rattle.cbsrun_remedy_texts.specs.Remedies.{fit_text}
+use Rattle.cbsrun_remedy_texts.proofs.Texts.{pushed}
+use Rattle.cbsrun_remedy_texts.proofs.remedy.append_fit.Goals as goal
 
 pub returns : goal.returns
 unfolding fit_text
