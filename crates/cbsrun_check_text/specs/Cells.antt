@@ -17,6 +17,7 @@ shown_text (shown.Word word) = word.now
 shown_text (shown.Time tick ticks) = time_text tick ticks
 shown_text (shown.Range tick least greatest) = amount_text tick least ++ codes ".." ++ time_text tick greatest
 shown_text (shown.Jittered tick least greatest jitter) = range_amount tick least greatest ++ codes " +" ++ time_text tick jitter
+shown_text (shown.Once tick ticks) = time_text tick ticks ++ codes " once"
 shown_text (shown.InTime tick ticks) = codes "yes, by " ++ time_text tick ticks
 shown_text (shown.TooLate tick ticks) = codes "no, by " ++ time_text tick ticks
 shown_text (shown.Fraction share) = fraction_text share.part share.whole

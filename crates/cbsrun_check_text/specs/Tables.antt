@@ -14,7 +14,7 @@ use Rattle.cbsrun_time_texts.specs.Texts.{amount_text, time_text}
 use Rattle.cbsrun_check_text.specs.Cells.{range_amount}
 use Rattle.cbsrun_check_text.specs.Fractions.{fraction_text, percent_text}
 use Rattle.cbsrun_simulate.specs.Bounds.{Bounds}
-use Rattle.cbsrun_simulate.specs.Released.{distance}
+use Rattle.cbsrun_simulate.specs.Released.{distance, is_single}
 use Rattle.cbsrun_simulate.specs.declared.terms.SourceTerms.{SourceTerms}
 use Rattle.cbsrun_sizing.specs.ServerLoads.{no_load}
 use Rattle.cbsrun_sizing.specs.declared.server_load.ServerLoad.{ServerLoad}
@@ -58,9 +58,13 @@ range_text tick r =
     if eqb r.least r.greatest then time_text tick r.least else amount_text tick r.least ++ codes ".." ++ time_text tick r.greatest
 
 -- the ticks from one job of a source to the next, and the jitter, if there is one
-abbrev pub every_text : Option ℕ → SourceTerms → List ℕ
-every_text tick t =
+abbrev pub jittered_text : Option ℕ → SourceTerms → List ℕ
+jittered_text tick t =
     if eqb t.jitter 0 then range_text tick t.every else range_amount tick t.every.least t.every.greatest ++ codes " +" ++ time_text tick t.jitter
+
+-- the same, or - if it releases one job at most
+abbrev pub every_text : Option ℕ → SourceTerms → List ℕ
+every_text tick t = if is_single t.jobs then codes "-" else jittered_text tick t
 
 -- a number of ticks, or - if there is none
 abbrev pub optional_text : Option ℕ → Option ℕ → List ℕ
@@ -85,11 +89,17 @@ greatest_job t = t.units.greatest * (1 + t.overrun.greatest)
 abbrev pub is_asking_too_much : Rate → SourceTerms → Bool
 is_asking_too_much rate t = ltb (rate.budget * distance t) (greatest_job t * rate.period)
 
+-- what a source may ask for: the greatest job in the least ticks to the next. A source of one job asks for it once
+abbrev pub asks_cell : Option ℕ → Rate → SourceTerms → CellText
+asks_cell tick rate t =
+    if is_single t.jobs then plain (time_text tick (greatest_job t) ++ codes " once")
+    else marked_if (is_asking_too_much rate t) (fraction_text (greatest_job t) (distance t))
+
 -- the row of a source: what it may ask for, what its server has, and what is promised
 abbrev pub source_row : Option ℕ → List ℕ → Rate → Result ℕ NotPromised → SourceTerms → List CellText
 source_row tick name rate promised t =
     plain name ∷ plain (range_text tick t.units) ∷ plain (every_text tick t)
-    ∷ marked_if (is_asking_too_much rate t) (fraction_text (greatest_job t) (distance t)) ∷ plain (fraction_text rate.budget rate.period)
+    ∷ asks_cell tick rate t ∷ plain (fraction_text rate.budget rate.period)
     ∷ plain (optional_text tick t.within) ∷ plain (in_time_text tick promised t.within) ∷ []
 
 abbrev pub sources_heading : List CellText

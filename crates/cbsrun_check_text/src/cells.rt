@@ -20,6 +20,8 @@ pub(crate) enum Shown<'a> {
     Range(Option<u64>, u64, u64),
     /// The least and the greatest number of ticks of a range, and a jitter.
     Jittered(Option<u64>, u64, u64, u64),
+    /// A number of ticks that is asked for once.
+    Once(Option<u64>, u64),
     /// That each job is finished in time: within this many ticks.
     InTime(Option<u64>, u64),
     /// That each job is finished within this many ticks, which is not in time.
@@ -43,6 +45,15 @@ fn time_after(
 {
     let mut text = String::from_str(alloc, words)?;
     append_time(&mut text, tick, ticks)?;
+    Ok(text)
+}
+
+/// Returns a number of ticks that is asked for once.
+fn once(alloc: Global, tick: Option<u64>, ticks: u64) -> Result<String, AllocError>
+    ensures { IfOk result (λ text. string_bytes text ≡ time_text tick ticks ++ codes " once") }
+{
+    let mut text = time_after(alloc, "", tick, ticks)?;
+    text.push_str(" once")?;
     Ok(text)
 }
 
@@ -107,6 +118,7 @@ impl Shown<'_> {
             Shown::Jittered(tick, least, greatest, jitter) => {
                 jittered(alloc, tick, least, greatest, jitter)
             }
+            Shown::Once(tick, ticks) => once(alloc, tick, ticks),
             Shown::InTime(tick, ticks) => time_after(alloc, "yes, by ", tick, ticks),
             Shown::TooLate(tick, ticks) => time_after(alloc, "no, by ", tick, ticks),
             Shown::Fraction(share) | Shown::MarkedFraction(share, _) => share.fraction(alloc),

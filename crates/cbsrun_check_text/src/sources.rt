@@ -5,7 +5,7 @@ ghost use Rattle.cbsrun_simulate.specs.Released.{distance};
 ghost use Rattle.cbsrun_text.specs.Columns.{plain, rows_of};
 ghost use Rattle.cbsrun_sizing.specs.Asked.{most_ticks};
 ghost use Rattle.cbsrun_check_text.specs.Cells.{cell_of};
-ghost use Rattle.cbsrun_check_text.specs.Tables.{optional_text, range_text, every_text, in_time_text, greatest_job, is_asking_too_much, source_row, row_of, sources_heading, sources_table, sources_text};
+ghost use Rattle.cbsrun_check_text.specs.Tables.{asks_cell, jittered_text, optional_text, range_text, every_text, in_time_text, greatest_job, is_asking_too_much, source_row, row_of, sources_heading, sources_table, sources_text};
 
 use crate::cells::Shown;
 use crate::fractions::Share;
@@ -30,14 +30,24 @@ fn range_shown(tick: Option<u64>, range: Range) -> Shown<'static>
 }
 
 /// Returns what a cell shows of the ticks from one job of a source to the next: with its jitter, if it has one.
-fn every_shown(tick: Option<u64>, terms: &SourceTerms) -> Shown<'static>
-    ensures { cell_of result ≡ plain (every_text tick terms.now) }
+fn jittered_shown(tick: Option<u64>, terms: &SourceTerms) -> Shown<'static>
+    ensures { cell_of result ≡ plain (jittered_text tick terms.now) }
 {
     if terms.jitter == 0 {
         return range_shown(tick, terms.every);
     }
     let every = terms.every;
     Shown::Jittered(tick, every.least(), every.greatest(), terms.jitter)
+}
+
+/// Returns the same, or `-` if the source releases one job at most.
+fn every_shown(tick: Option<u64>, terms: &SourceTerms) -> Shown<'static>
+    ensures { cell_of result ≡ plain (every_text tick terms.now) }
+{
+    if terms.is_single() {
+        return Shown::Word("-");
+    }
+    jittered_shown(tick, terms)
 }
 
 /// Returns what a cell shows of a number of ticks: it, or `-` if there is no number.
@@ -83,6 +93,19 @@ fn is_asking_too_much(rate: Reservation, terms: &SourceTerms) -> bool
         < u128::from(greatest_job(terms)) * u128::from(rate.period())
 }
 
+/// Returns what a cell shows of what a source may ask for, of a server with this reservation.
+fn asks_shown(tick: Option<u64>, rate: Reservation, terms: &SourceTerms) -> Shown<'static>
+    requires apart { 0 < distance terms.now }
+    requires short { greatest_job terms.now ≤ most_ticks }
+    ensures { cell_of result ≡ asks_cell tick rate terms.now }
+{
+    if terms.is_single() {
+        return Shown::Once(tick, greatest_job(terms));
+    }
+    let asked = Share::new(greatest_job(terms), terms.distance());
+    Shown::MarkedFraction(asked, is_asking_too_much(rate, terms))
+}
+
 /// Returns the heading of the table.
 fn heading(alloc: Global) -> Result<Vec<Cell>, AllocError>
     ensures { IfOk result (λ row. row.items ≡ sources_heading) }
@@ -114,7 +137,6 @@ fn source_row(
     requires short { greatest_job terms.now ≤ most_ticks }
     ensures { IfOk result (λ row. row.items ≡ source_row tick name.now rate promised terms.now) }
 {
-    let asked = Share::new(greatest_job(terms), terms.distance());
     let reserved = Share::new(rate.budget(), rate.period());
     cells(
         alloc,
@@ -122,7 +144,7 @@ fn source_row(
             Shown::Word(name),
             range_shown(tick, terms.units),
             every_shown(tick, terms),
-            Shown::MarkedFraction(asked, is_asking_too_much(rate, terms)),
+            asks_shown(tick, rate, terms),
             Shown::Fraction(reserved),
             ticks_shown(tick, terms.within),
             promise_shown(tick, promised, terms.within),

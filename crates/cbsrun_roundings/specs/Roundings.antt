@@ -81,8 +81,8 @@ of_server tick ms name = at_key tick ms name (codes "budget") Up
 -- they are wanted are rounded down
 unfoldable pub of_source : ℕ → Members → List ℕ → List RoundedTime
 of_source tick ms name =
-    at_key tick ms name (codes "first") Down ++ at_key tick ms name (codes "every") Down ++ at_key tick ms name (codes "units") Up
-    ++ at_key tick ms name (codes "within") Down ++ at_key tick ms name (codes "overrun") Up ++ at_key tick ms name (codes "jitter") Up
+    at_key tick ms name (codes "first") Down ++ at_key tick ms name (codes "every") Down ++ at_key tick ms name (codes "at") Down
+    ++ at_key tick ms name (codes "units") Up ++ at_key tick ms name (codes "within") Down ++ at_key tick ms name (codes "overrun") Up ++ at_key tick ms name (codes "jitter") Up
 
 -- those of a table of this kind
 abbrev pub of_table : Kind → ℕ → Members → List RoundedTime

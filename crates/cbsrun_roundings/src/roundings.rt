@@ -142,6 +142,7 @@ fn add_source<'a>(
 {
     add_at(rows, tick, table, name, "first", Rounding::Down)?;
     add_at(rows, tick, table, name, "every", Rounding::Down)?;
+    add_at(rows, tick, table, name, "at", Rounding::Down)?;
     add_at(rows, tick, table, name, "units", Rounding::Up)?;
     add_at(rows, tick, table, name, "within", Rounding::Down)?;
     add_at(rows, tick, table, name, "overrun", Rounding::Up)?;

@@ -1,6 +1,6 @@
 use Rattle.std.proofs.Common.{◌≡◌, ◌<◌, ap, ◌∙◌, get_or, length, arith}
 use Rattle.std.proofs.lemmas.Grind.{common_steps}
-use Rattle.cbsrun_simulate.specs.Released.{distance}
+use Rattle.cbsrun_simulate.proofs.Apart.{distance_some}
 use Rattle.cbsrun_check_text.specs.Tables.{sources_heading, row_of}
 use Rattle.cbsrun_check_text.proofs.Jobs.{job_short}
 use Rattle.cbsrun_check_text.proofs.Rows.{listed_more}
@@ -24,8 +24,7 @@ row_of-requires-clause-apart c =
     let is : t ≡ get_or f.sources i t = rw c.sources-terms-items.ensures.value at c.terms-item.is in
     let here : i < length f.sources = rw c.sources-terms-items.ensures.value at c.loop-terms-test.true in
     let little = (c.sources-terms-items.ensures.lawful.lawful i t here).lawful.little_jitter in
-    let apart : 0 < distance (get_or f.sources i t) = omega arith in
-    rw (← is) at apart
+    rw (← is) at (distance_some (get_or f.sources i t) little)
 
 pub row_of-requires-clause-short : goal.row_of-requires-clause-short
 row_of-requires-clause-short c =
