@@ -1,20 +1,20 @@
 -- Words that were written, in the order of their definition.
-use Rattle.std.proofs.Common.{◌≡◌, ℕ, ◌<◌, List, ◌++◌, false, eqb, arith}
-use Rattle.std.specs.Prelude.{codes, decimal}
+use Rattle.std.proofs.Common.{◌≡◌, ℕ, ◌<◌, ◌++◌, false, eqb, refl, arith}
+use Rattle.std.specs.Prelude.{codes, Option}
 use Rattle.std.proofs.lemmas.Bool.Decides.{nat_tests}
-use Rattle.std.proofs.lemmas.List.{append_assoc}
-use Rattle.cbsrun_fault_texts.specs.Over.{greatest_words, least_words}
+use Rattle.cbsrun_time_texts.specs.Texts.{time_text}
+use Rattle.cbsrun_fault_texts.specs.Over.{greatest_words}
 
 -- the words on a budget that is not 0
-pub greatest_is : (period budget : ℕ) (text : List ℕ) → ¬ (budget ≡ 0)
-    → text ≡ codes "at period " ++ (decimal period ++ (codes " a budget of " ++ (decimal budget ++ codes " fits, and no greater one")))
-    → text ≡ greatest_words period budget
-greatest_is period budget text differs wrote =
+pub greatest_is : (tick : Option ℕ) (period budget : ℕ) → ¬ (budget ≡ 0)
+    → (((codes "at period " ++ time_text tick period) ++ codes " a budget of ") ++ time_text tick budget) ++ codes " fits, and no greater one"
+    ≡ greatest_words tick period budget
+greatest_is tick period budget differs =
     let some : 0 < budget = omega arith in
     let fits : eqb budget 0 ≡ false = grind (arith, nat_tests) in
-    rw (fits, wrote) (simp append_assoc)
+    rw fits refl
 
--- the words on a period
-pub least_is : (budget period : ℕ) (text : List ℕ) → text ≡ codes "a budget of " ++ (decimal budget ++ (codes " fits at period " ++ decimal period))
-    → text ≡ least_words budget period
-least_is budget period text wrote = rw wrote (simp append_assoc)
+-- .. that is 0
+pub greatest_none : (tick : Option ℕ) (period budget : ℕ) → budget ≡ 0
+    → (codes "at period " ++ time_text tick period) ++ codes " no budget fits" ≡ greatest_words tick period budget
+greatest_none tick period budget is = rw is refl

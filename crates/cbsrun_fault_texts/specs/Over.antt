@@ -13,6 +13,7 @@ use Rattle.cbs_guarantee.specs.Parts.{AreParts, IsSplitReason}
 use Rattle.cbs_guarantee.specs.declared.parts.Part.{Part}
 use Rattle.cbs_guarantee.specs.declared.parts.SplitError.TheVariants as error
 use Rattle.cbsrun_check_text.specs.Fractions.{fraction_text, percent_text}
+use Rattle.cbsrun_time_texts.specs.Texts.{time_text}
 use Rattle.cbsrun_faults.specs.Documents.{name_at}
 use Rattle.cbsrun_faults.specs.Refused.{AreReservations}
 use Rattle.cbsrun_faults.specs.declared.refused.Refused.{Refused}
@@ -23,6 +24,12 @@ use Rattle.cbsrun_fault_texts.specs.Pages.{IsNote, bar, left_in, right_in, print
 pub record IsShare (r : Ratio) : Type 0 where
   pub some : 0 < r.whole
   pub small : r.part + r.whole < 2 ^ 112
+
+-- the share of a reservation: its budget and its period are below 2^64
+pub record IsShort (r : Ratio) : Type 0 where
+  pub some : 0 < r.whole
+  pub budget : r.part < 2 ^ 64
+  pub period : r.whole < 2 ^ 64
 
 -- The same fraction, shortened: its numbers times `divisor` are those of the other. No number times the other is whole
 -- and below its whole
@@ -50,18 +57,18 @@ row columns label part whole end =
 abbrev pub before_label : ℕ → List ℕ
 before_label server = if eqb server 1 then codes "server 0" else codes "servers 0 to " ++ decimal (server - 1)
 
--- the label of this server, by its budget and its period
-abbrev pub own_label : Ratio → List ℕ
-own_label own = codes "budget = " ++ decimal own.part ++ codes ", period = " ++ decimal own.whole
+-- the label of this server, by its budget and its period. Times are in milliseconds, if the nanoseconds of a tick are known
+abbrev pub own_label : Option ℕ → Ratio → List ℕ
+own_label tick own = codes "budget = " ++ time_text tick own.part ++ codes ", period = " ++ time_text tick own.whole
 
 -- how long a fraction is, as it is written
 abbrev pub fraction_length : Ratio → ℕ
 fraction_length r = length (fraction_text r.part r.whole)
 
 -- the columns of the sum: wide enough for the label of this server, and for each of the fractions
-abbrev pub columns_for : Ratio → Ratio → Ratio → Columns
-columns_for together own excess = record {
-  label = max 24 (length (own_label own));
+abbrev pub columns_for : Option ℕ → Ratio → Ratio → Ratio → Columns
+columns_for tick together own excess = record {
+  label = max 24 (length (own_label tick own));
   fraction = max (max (max 10 (fraction_length together)) (fraction_length own)) (fraction_length excess);
 }
 
@@ -75,18 +82,18 @@ before_row columns server together =
     if eqb server 0 then [] else row columns (before_label server) together.part together.whole []
 
 -- the row of this server
-unfoldable pub own_row : Columns → Ratio → List ℕ
-own_row columns own = row columns (own_label own) own.part own.whole []
+unfoldable pub own_row : Columns → Option ℕ → Ratio → List ℕ
+own_row columns tick own = row columns (own_label tick own) own.part own.whole []
 
 -- the rows, between two bars: the servers before this one, this one, and what is too much
-abbrev pub rows_text : Columns → ℕ → Ratio → Ratio → Ratio → List ℕ
-rows_text columns server together own excess =
-    bar 3 ++ before_row columns server together ++ own_row columns own ++ row columns [] excess.part excess.whole (codes "  too much") ++ bar 3
+abbrev pub rows_text : Columns → Option ℕ → ℕ → Ratio → Ratio → Ratio → List ℕ
+rows_text columns tick server together own excess =
+    bar 3 ++ before_row columns server together ++ own_row columns tick own ++ row columns [] excess.part excess.whole (codes "  too much") ++ bar 3
 
 -- the sum in its columns
-abbrev pub sum_text : ℕ → List Rate → Ratio → Ratio → List ℕ
-sum_text server rates own excess =
-    rows_text (columns_for (share_of rates) own excess) server (share_of rates) own excess
+abbrev pub sum_text : Option ℕ → ℕ → List Rate → Ratio → Ratio → List ℕ
+sum_text tick server rates own excess =
+    rows_text (columns_for tick (share_of rates) own excess) tick server (share_of rates) own excess
 
 -- ---- The helps
 
@@ -99,31 +106,31 @@ abbrev pub IsHelpThat : (List ℕ → Type 0) → List ℕ → Type 0
 IsHelpThat Says text = (words : List ℕ) × Says words × IsHelp words text
 
 -- the words on the greatest budget at a period; 0 if no budget fits
-abbrev pub greatest_words : ℕ → ℕ → List ℕ
-greatest_words period budget =
-    if eqb budget 0 then codes "at period " ++ decimal period ++ codes " no budget fits"
-    else codes "at period " ++ decimal period ++ codes " a budget of " ++ decimal budget ++ codes " fits, and no greater one"
+abbrev pub greatest_words : Option ℕ → ℕ → ℕ → List ℕ
+greatest_words tick period budget =
+    if eqb budget 0 then codes "at period " ++ time_text tick period ++ codes " no budget fits"
+    else codes "at period " ++ time_text tick period ++ codes " a budget of " ++ time_text tick budget ++ codes " fits, and no greater one"
 
 -- the words on the least period for a budget
-abbrev pub least_words : ℕ → ℕ → List ℕ
-least_words budget period = codes "a budget of " ++ decimal budget ++ codes " fits at period " ++ decimal period
+abbrev pub least_words : Option ℕ → ℕ → ℕ → List ℕ
+least_words tick budget period = codes "a budget of " ++ time_text tick budget ++ codes " fits at period " ++ time_text tick period
 
 -- the words tell the greatest budget that the plan takes at this period
-pub record TellsGreatest (plan : Planned) (period : ℕ) (text : List ℕ) : Type 0 where
+pub record TellsGreatest (tick : Option ℕ) (plan : Planned) (period : ℕ) (text : List ℕ) : Type 0 where
   pub budget : ℕ
   pub greatest : IsGreatestBudget plan period budget
-  pub words : text ≡ greatest_words period budget
+  pub words : text ≡ greatest_words tick period budget
 
 -- the words tell the least period at which the plan takes this budget
-pub record TellsLeast (plan : Planned) (budget : ℕ) (text : List ℕ) : Type 0 where
+pub record TellsLeast (tick : Option ℕ) (plan : Planned) (budget : ℕ) (text : List ℕ) : Type 0 where
   pub period : ℕ
   pub least : IsLeastPeriod plan budget period
-  pub words : text ≡ least_words budget period
+  pub words : text ≡ least_words tick budget period
 
 -- a help tells the least period for this budget; if there is none, there is no help
-abbrev pub TellsLeastIfAny : Planned → ℕ → List ℕ → Type 0
-TellsLeastIfAny plan budget text =
-    (((period : ℕ) → ¬ (IsLeastPeriod plan budget period)) × (text ≡ [])) ⊎ IsHelpThat (TellsLeast plan budget) text
+abbrev pub TellsLeastIfAny : Option ℕ → Planned → ℕ → List ℕ → Type 0
+TellsLeastIfAny tick plan budget text =
+    (((period : ℕ) → ¬ (IsLeastPeriod plan budget period)) × (text ≡ [])) ⊎ IsHelpThat (TellsLeast tick plan budget) text
 
 -- ---- The split
 
@@ -199,8 +206,8 @@ pub record AreHelps (entries : List Data) (refused : Refused) (text : List ℕ) 
   pub on_budget : List ℕ
   pub on_period : List ℕ
   pub on_split : List ℕ
-  pub greatest : IsHelpThat (TellsGreatest refused.plan refused.reservation.period) on_budget
-  pub least : TellsLeastIfAny refused.plan refused.reservation.budget on_period
+  pub greatest : IsHelpThat (TellsGreatest refused.tick refused.plan refused.reservation.period) on_budget
+  pub least : TellsLeastIfAny refused.tick refused.plan refused.reservation.budget on_period
   pub split : TellsSplit refused.tick refused.plan.bound entries on_split
   pub bytes : text ≡ on_budget ++ on_period ++ on_split
 
@@ -217,4 +224,4 @@ pub record IsOverText (IsPlace : List ℕ → Type 0) (entries : List Data) (ref
   pub are_helps : AreHelps entries refused helps
   pub bytes : text ≡
       over_line total refused.number refused.plan.bound ++ place
-      ++ sum_text refused.number refused.plan.rates (record { part = refused.reservation.budget; whole = refused.reservation.period }) excess ++ helps
+      ++ sum_text refused.tick refused.number refused.plan.rates (record { part = refused.reservation.budget; whole = refused.reservation.period }) excess ++ helps

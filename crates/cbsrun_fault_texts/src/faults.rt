@@ -15,7 +15,7 @@ use crate::remarks::{append_outside_line, append_type_lines};
 use crate::shown::{append_shown, type_phrase};
 use crate::values::{append_outside, append_wrong_type};
 use cbsrun_faults::{
-    Document, Finding, Key, Meant, Spot, Want, find, header_line, meant_by, spot_at,
+    Document, Finding, Key, Meant, Spot, Subject, Want, find, header_line, meant_by, spot_at,
 };
 use cbsrun_toml_tables::{FileFault, FileKind, Place};
 use std::alloc::{AllocError, Global};
@@ -55,6 +55,14 @@ fn append_other_kind(page: &mut Page, spot: &Spot<'_>) {
     page.push("  = note: a task file has `format = 2`, and a load file `load = 1`\n");
 }
 
+/// Appends which command proposes a reservation, if a key of one is missing from a server of a load.
+fn append_size_help(page: &mut Page, spot: &Spot<'_>, key: Key) {
+    if matches!(spot.subject, Subject::NamedServer) && matches!(key.name, "budget" | "period") {
+        let words = "`cbsrun size LOAD` proposes budget and period, if both are left out";
+        page.push_note(2, "help", String::from_str(page.alloc, words));
+    }
+}
+
 /// Appends the explanation of a key that is missing.
 fn append_missing(page: &mut Page, spot: &Spot<'_>, key: Key) {
     if key.name == "format" {
@@ -67,6 +75,7 @@ fn append_missing(page: &mut Page, spot: &Spot<'_>, key: Key) {
     };
     page.push_spot_at(spot, number);
     append_keys_note(page, 2, spot.subject, true);
+    append_size_help(page, spot, key);
 }
 
 /// Appends the explanation of a value of a wrong type.

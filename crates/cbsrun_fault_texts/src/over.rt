@@ -8,7 +8,7 @@ ghost use Rattle.cbs_rate.specs.Rate.{IsRate};
 ghost use Rattle.cbs_rate.specs.Room.{IsLeastPeriod};
 ghost use Rattle.cbs_rate.specs.declared.error.AdmitError.TheVariants.{OverBound};
 ghost use Rattle.cbsrun_check_text.specs.Fractions.{fraction_text, percent_text};
-ghost use Rattle.cbsrun_fault_texts.specs.Over.{row, before_label, own_label, fraction_length, columns_for, before_row, own_row, rows_text, sum_text, IsHelp, IsHelpThat, TellsGreatest, TellsLeast, TellsLeastIfAny, server_word, separator, servers_text, part_line, alone_words, IsPartsText, TellsSplit, AreHelps, IsOverText, IsShare, IsShortened};
+ghost use Rattle.cbsrun_fault_texts.specs.Over.{row, before_label, own_label, fraction_length, columns_for, before_row, own_row, rows_text, sum_text, IsHelp, IsHelpThat, TellsGreatest, TellsLeast, TellsLeastIfAny, server_word, separator, servers_text, part_line, alone_words, IsPartsText, TellsSplit, AreHelps, IsOverText, IsShare, IsShort, IsShortened};
 ghost use Rattle.cbsrun_fault_texts.specs.Pages.{Appends, AppendsA};
 ghost use Rattle.cbsrun_fault_texts.specs.Refusals.{IsSpotLine};
 
@@ -18,6 +18,7 @@ use cbs_rate::{Bandwidth, Bound, Plan, Ratio, Reservation};
 use cbsrun_check_text::{append_fraction, append_percent};
 use cbsrun_faults::{Document, Refused, Spot, reservations};
 use cbsrun_sizing::greatest_common_divisor;
+use cbsrun_time_texts::append_time;
 use std::alloc::{AllocError, Global};
 
 /// The columns before the bar.
@@ -115,16 +116,17 @@ fn fraction_length(alloc: Global, ratio: Ratio) -> Result<usize, AllocError>
 /// out of memory.
 fn columns_for(
     alloc: Global,
+    tick: Option<u64>,
     together: Ratio,
     own: Ratio,
     excess: Ratio,
 ) -> Result<Columns, AllocError>
     requires together { 0 < together.whole }
-    requires own { 0 < own.whole }
+    requires own { IsShort own }
     requires excess { 0 < excess.whole }
-    ensures { IfOk result (λ columns. columns ≡ columns_for together own excess) }
+    ensures { IfOk result (λ columns. columns ≡ columns_for tick together own excess) }
 {
-    let label = own_label(alloc, own)?;
+    let label = own_label(alloc, tick, own)?;
     let fraction = FRACTION
         .max(fraction_length(alloc, together)?)
         .max(fraction_length(alloc, own)?)
@@ -170,12 +172,15 @@ fn before_label(alloc: Global, number: usize) -> Result<String, AllocError>
 }
 
 /// Returns the label of this server. The only error is out of memory.
-fn own_label(alloc: Global, own: Ratio) -> Result<String, AllocError>
-    ensures { IfOk result (λ label. string_bytes label ≡ own_label own) }
+fn own_label(alloc: Global, tick: Option<u64>, own: Ratio) -> Result<String, AllocError>
+    requires { IsShort own }
+    ensures { IfOk result (λ label. string_bytes label ≡ own_label tick own) }
 {
-    let budget = own.part;
-    let period = own.whole;
-    format!(in alloc; "budget = {budget}, period = {period}")
+    let mut label = String::from_str(alloc, "budget = ")?;
+    append_time(&mut label, tick, own.part as u64)?;
+    label.push_str(", period = ")?;
+    append_time(&mut label, tick, own.whole as u64)?;
+    Ok(label)
 }
 
 /// Appends a row for the servers before this one, if there are any.
@@ -196,11 +201,11 @@ fn append_before(page: &mut Page, columns: Columns, number: usize, together: Rat
 
 /// Appends the row of this server, with its own share.
 #[tactic(auto, unfolding(crate::specs::Over::own_row))]
-fn append_own(page: &mut Page, columns: Columns, own: Ratio)
-    requires { IsShare own }
-    ensures { Appends page.old page.new (own_row columns own) }
+fn append_own(page: &mut Page, columns: Columns, tick: Option<u64>, own: Ratio)
+    requires { IsShort own }
+    ensures { Appends page.old page.new (own_row columns tick own) }
 {
-    let label = own_label(page.alloc, own);
+    let label = own_label(page.alloc, tick, own);
     let Some(label) = page.accept(label) else {
         return;
     };
@@ -212,81 +217,101 @@ fn append_own(page: &mut Page, columns: Columns, own: Ratio)
 fn append_rows(
     page: &mut Page,
     columns: Columns,
+    tick: Option<u64>,
     number: usize,
     together: Ratio,
     own: Ratio,
     excess: Ratio,
 )
     requires together { IsShare together }
-    requires own { IsShare own }
+    requires own { IsShort own }
     requires excess { IsShare excess }
-    ensures { Appends page.old page.new (rows_text columns number together own excess) }
+    ensures { Appends page.old page.new (rows_text columns tick number together own excess) }
 {
     page.push_bar(MARGIN);
     append_before(page, columns, number, together);
-    append_own(page, columns, own);
+    append_own(page, columns, tick, own);
     append_row(page, columns, "", excess, "  too much");
     page.push_bar(MARGIN);
 }
 
 /// Appends the sum, in columns that are wide enough.
 fn append_sum(page: &mut Page, refused: &Refused, own: Ratio, excess: Ratio)
-    requires own { IsShare own }
+    requires own { IsShort own }
     requires excess { IsShare excess }
     ensures { Appends page.old page.new
-        (sum_text refused.now.number refused.now.plan.rates own excess) }
+        (sum_text refused.now.tick refused.now.number refused.now.plan.rates own excess) }
 {
     let together = ratio_of_bandwidth(refused.plan.bandwidth());
-    let columns = columns_for(page.alloc, together, own, excess);
+    let tick = refused.tick;
+    let columns = columns_for(page.alloc, tick, together, own, excess);
     let Some(columns) = page.accept(columns) else {
         return;
     };
-    append_rows(page, columns, refused.number, together, own, excess);
+    append_rows(page, columns, tick, refused.number, together, own, excess);
 }
 
 /// Returns the words on the greatest budget that a plan takes at a period. The only error is out of memory.
-fn greatest_words(alloc: Global, plan: &Plan, period: u64) -> Result<String, AllocError>
-    ensures { IfOk result (λ words. TellsGreatest plan.now period (string_bytes words)) }
+fn greatest_words(
+    alloc: Global,
+    tick: Option<u64>,
+    plan: &Plan,
+    period: u64,
+) -> Result<String, AllocError>
+    ensures { IfOk result (λ words. TellsGreatest tick plan.now period (string_bytes words)) }
 {
     let budget = plan.greatest_budget(period);
+    let mut words = String::from_str(alloc, "at period ")?;
+    append_time(&mut words, tick, period)?;
     if budget == 0 {
-        return format!(in alloc; "at period {period} no budget fits");
+        words.push_str(" no budget fits")?;
+        return Ok(words);
     }
-    let words = format!(in alloc;
-        "at period {period} a budget of {budget} fits, and no greater one"
-    )?;
+    words.push_str(" a budget of ")?;
+    append_time(&mut words, tick, budget)?;
+    words.push_str(" fits, and no greater one")?;
     Ok(words)
 }
 
 /// Returns the words on the least period at which a plan takes a budget, or `None` if there is none. The only error is
 /// out of memory.
-fn least_words(alloc: Global, plan: &Plan, budget: u64) -> Result<Option<String>, AllocError>
+fn least_words(
+    alloc: Global,
+    tick: Option<u64>,
+    plan: &Plan,
+    budget: u64,
+) -> Result<Option<String>, AllocError>
     ensures { IfOk result (λ words. MatchOption words
         ((period : ℕ) → ¬ (IsLeastPeriod plan.now budget period))
-        (λ words. TellsLeast plan.now budget (string_bytes words))) }
+        (λ words. TellsLeast tick plan.now budget (string_bytes words))) }
 {
     let Some(period) = plan.least_period(budget) else {
         return Ok(None);
     };
-    let words = format!(in alloc; "a budget of {budget} fits at period {period}")?;
+    let mut words = String::from_str(alloc, "a budget of ")?;
+    append_time(&mut words, tick, budget)?;
+    words.push_str(" fits at period ")?;
+    append_time(&mut words, tick, period)?;
     Ok(Some(words))
 }
 
 /// Appends the greatest budget at this period.
 fn append_greatest(page: &mut Page, refused: &Refused)
-    ensures { AppendsA (IsHelpThat (TellsGreatest refused.now.plan refused.now.reservation.period))
-        page.old page.new }
+    ensures { AppendsA (IsHelpThat (TellsGreatest refused.now.tick refused.now.plan
+        refused.now.reservation.period)) page.old page.new }
 {
-    let words = greatest_words(page.alloc, &refused.plan, refused.reservation.period());
+    let period = refused.reservation.period();
+    let words = greatest_words(page.alloc, refused.tick, &refused.plan, period);
     page.push_note(MARGIN, "help", words);
 }
 
 /// Appends the least period for this budget, if there is one.
 fn append_least(page: &mut Page, refused: &Refused)
-    ensures { AppendsA (TellsLeastIfAny refused.now.plan refused.now.reservation.budget)
-        page.old page.new }
+    ensures { AppendsA (TellsLeastIfAny refused.now.tick refused.now.plan
+        refused.now.reservation.budget) page.old page.new }
 {
-    match least_words(page.alloc, &refused.plan, refused.reservation.budget()) {
+    let budget = refused.reservation.budget();
+    match least_words(page.alloc, refused.tick, &refused.plan, budget) {
         Ok(Some(words)) => page.push_note(MARGIN, "help", Ok(words)),
         Ok(None) => {}
         Err(AllocError) => page.fail(),

@@ -10,8 +10,8 @@ returns c =
     let plan = c.args.refused.now.plan in
     let rate = c.args.refused.now.reservation in
     let entries = map view c.args.document.servers.now in
-    let Greatest = IsHelpThat (TellsGreatest plan rate.period) in
-    let Least = TellsLeastIfAny plan rate.budget in
+    let Greatest = IsHelpThat (TellsGreatest c.args.refused.now.tick plan rate.period) in
+    let Least = TellsLeastIfAny c.args.refused.now.tick plan rate.budget in
     let Split = TellsSplit c.args.refused.now.tick plan.bound entries in
     let Two = λ (t : List ℕ). (x : List ℕ) × (y : List ℕ) × Least x × Split y × (t ≡ x ++ y) in
     both c.args.page.now c.append_greatest.new.page c.append_split.new.page Greatest Two (AreHelps entries c.args.refused.now) c.append_greatest.ensures

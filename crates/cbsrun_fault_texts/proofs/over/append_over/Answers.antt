@@ -23,6 +23,14 @@ line_is total bound_ratio server bound is = rw is (by (fraction_text total.part 
         ≡ codes "error: over the bound: " ++ a ++ codes " of the time with server " ++ b ++ codes ", and the bound is " ++ c
     by a b c = simp append_assoc
 
+pub append_sum-requires-clause-own : goal.append_sum-requires-clause-own
+append_sum-requires-clause-own c =
+    let rate = c.ratio_of-own.ensures.lawful in
+    let some = rate.some in
+    let within = rate.within in
+    let short = rate.short in
+    rw c.ratio_of-own.ensures.value (record { some = omega arith; budget = omega arith; period = omega arith; })
+
 pub append_sum-requires-clause-excess : goal.append_sum-requires-clause-excess
 append_sum-requires-clause-excess c =
     let refused = c.args.refused.now in
@@ -49,7 +57,7 @@ returns c =
     let p6 = c.append_helps.new.page in
     let line = over_line c.total_with-total.result refused.number refused.plan.bound in
     let own : Ratio = record { part = refused.reservation.budget; whole = refused.reservation.period } in
-    let sum = sum_text refused.number refused.plan.rates own c.shortened.result in
+    let sum = sum_text refused.tick refused.number refused.plan.rates own c.shortened.result in
     let IsPlace = IsSpotLine c.args.spot.now in
     let Helps = AreHelps entries refused in
     let Rest = λ (t : List ℕ). (y : List ℕ) × Helps y × (t ≡ sum ++ y) in
