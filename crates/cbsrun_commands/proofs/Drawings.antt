@@ -1,6 +1,6 @@
 -- How a command that draws ends, by what it did and by what was told of it.
-use Rattle.std.proofs.Common.{◌≡◌, ◌≤◌, Bool, true, false, List, [], ◌∷◌, ℕ, arith, length, subst, Result, Ok, Err, inl, inr, string_bytes}
-use Rattle.std.specs.Prelude.{filter}
+use Rattle.std.proofs.Common.{◌≡◌, ◌+◌, ◌≤◌, Bool, true, false, List, [], ◌∷◌, ℕ, arith, length, subst, Result, Ok, Err, inl, inr, string_bytes}
+use Rattle.std.specs.Prelude.{eqb, filter, if◌then◌else◌}
 use Rattle.cbsrun_window.specs.Windows.{AnswersShown}
 use Rattle.cbsrun_window.specs.declared.window.Window.{Window}
 use Rattle.cbsrun_chart.specs.Chosen.{chosen, is_named}
@@ -44,13 +44,19 @@ drawn_of_file d bytes f (Err (Run error)) old new is h = (f, is, h)
 pub fits_shown : (drawing : Drawing) (asked w : Window) (end : ℕ) → AnswersShown asked end (Ok w) → Fits drawing asked → Fits drawing w
 fits_shown drawing asked w end h fits = omega (arith, h.0, h.1, fits)
 
+-- a list with one item more or not
+one_more : {X : Type 0} (b : Bool) (x : X) (ys : List X) (n : ℕ) → length ys ≤ n → length (if b then x ∷ ys else ys) ≤ n + 1
+one_more true x ys n le = omega (arith, le)
+one_more false x ys n le = omega (arith, le)
+
 -- no more servers are drawn than there are
 filter_few : {X : Type 0} (f : X → Bool) (xs : List X) → length (filter f xs) ≤ length xs
 filter_few f [] = omega arith
-filter_few f (x ∷ xs) with f x
-  | true ↦ let few = filter_few f xs in omega (arith, few)
-  | false ↦ let few = filter_few f xs in omega (arith, few)
+filter_few f (x ∷ xs) = let few = one_more (f x) x (filter f xs) (length xs) (filter_few f xs) in omega (arith, few)
+
+few_of : {X : Type 0} (b : Bool) (xs ys : List X) → length ys ≤ length xs → length (if b then xs else ys) ≤ length xs
+few_of true xs ys le = omega arith
+few_of false xs ys le = le
 
 pub chosen_few : (names : List (List ℕ)) (ds : List Server) → length (chosen names ds) ≤ length ds
-chosen_few [] ds = omega arith
-chosen_few (name ∷ names) ds = filter_few (is_named (name ∷ names)) ds
+chosen_few names ds = few_of (eqb (length names) 0) ds (filter (is_named names) ds) (filter_few (is_named names) ds)

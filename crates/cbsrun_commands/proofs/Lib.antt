@@ -6,4 +6,4 @@ pub mod ResultLines
 pub mod Printings
 pub mod Endings
 pub mod Drawings
-pub mod Servers
+pub mod Wanted

@@ -5,8 +5,8 @@ ghost use Rattle.std.specs.Prelude.{◌≡◌};
 use super::fakes::{Memory, Outcome};
 use super::same;
 use cbsrun_commands::{
-    Changes, Drawing, Form, LoadReport, LoadSweep, NoProgress, RunDrawing, Seeds, SweepForm, Window,
-    check_bytes_within, draw_load_within, draw_tasks_within, report_bytes_within,
+    Changes, Drawing, Form, LoadReport, LoadSweep, NoProgress, RunDrawing, Seeds, SweepForm,
+    Window, check_bytes_within, draw_load_within, draw_tasks_within, report_bytes_within,
     simulate_bytes_within, simulate_jobs_within, simulate_lines_within, sweep_bytes_within,
 };
 use std::alloc::Global;

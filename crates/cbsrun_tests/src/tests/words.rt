@@ -169,13 +169,28 @@ static SHOWN: [(&str, u64, u64, bool); 4] = [
         true,
     ),
     ("cbsrun simulate --as svg --from 7 a.toml", 7, 20_007, false),
-    ("cbsrun simulate --as svg --to 20000 a.toml", 0, 20_000, true),
+    (
+        "cbsrun simulate --as svg --to 20000 a.toml",
+        0,
+        20_000,
+        true,
+    ),
 ];
 
 /// Command lines that trace a load, and the same of them. A trace has no greatest number of ticks.
 static TRACED: [(&str, u64, u64, bool); 2] = [
-    ("cbsrun simulate --as trace --from 5 a.toml", 5, u64::MAX, false),
-    ("cbsrun simulate --as trace --to 20001 a.toml", 0, 20_001, true),
+    (
+        "cbsrun simulate --as trace --from 5 a.toml",
+        5,
+        u64::MAX,
+        false,
+    ),
+    (
+        "cbsrun simulate --as trace --to 20001 a.toml",
+        0,
+        20_001,
+        true,
+    ),
 ];
 
 #[test]

@@ -1,7 +1,8 @@
 -- Names that are wanted, one after another.
-use Rattle.std.proofs.Common.{◌≡◌, ◌∙◌, ℕ, zero, suc, ◌+◌, ◌<◌, ◌&&◌, true, List, [], ◌∷◌, ◌++◌, ap, arith, length, map, take, Result, Ok, Err, sym}
-use Rattle.std.specs.Prelude.{OnOk, get_or}
-use Rattle.std.proofs.lemmas.List.{append-nil}
+use Rattle.std.proofs.Common.{◌≡◌, ◌∙◌, ℕ, zero, suc, ◌+◌, ◌<◌, ◌&&◌, true, List, [], ◌∷◌, ◌++◌, ap, arith, length, map, take, Result, Ok, Err, Some, sym}
+use Rattle.std.specs.Prelude.{OnOk, get_or, slice_get}
+use Rattle.std.proofs.lemmas.List.{append-nil, map-append, take_more}
+use Rattle.std.proofs.lemmas.Option.{get_or_from_slice_get, slice_get_within}
 use Rattle.cbsrun_commands.specs.Drawings.{BeginsWith, are_among, is_among}
 
 -- one name more is among the names
@@ -27,3 +28,11 @@ begins_as front text new is begins = (begins.0, begins.1 ∙ ap (λ t. t ++ begi
 -- a text begins with itself
 pub begins_with_itself : (text : List ℕ) → BeginsWith text text
 begins_with_itself text = ([], sym (append-nil text))
+
+-- one more of the first elements, as a function makes it
+pub map_taken : {A B : Type 0} (f : A → B) (xs : List A) (ys : List B) (i : ℕ) (x : A) → map f xs ≡ take i ys → Some (f x) ≡ slice_get ys i
+    → map f (xs ++ x ∷ []) ≡ take (i + 1) ys
+map_taken f xs ys i x so_far at =
+    let here = get_or_from_slice_get ys i (f x) (f x) (sym at) in
+    map-append f xs (x ∷ []) ∙ (ap (λ zs. zs ++ f x ∷ []) so_far
+    ∙ sym (take_more ys i (f x) (slice_get_within ys i (f x) (sym at)) ∙ ap (λ y. take i ys ++ y ∷ []) here))
