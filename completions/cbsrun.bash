@@ -44,7 +44,7 @@ _cbsrun() {
             esac
             return
             ;;
-        yes--from | yes--to | yes--seed | yes--until | yes--seeds) return ;;
+        yes--from | yes--to | yes--server | yes--seed | yes--until | yes--seeds) return ;;
     esac
     case $command,$options,$word in
         ,yes,-*) _cbsrun_words -h --help -V --version ;;
@@ -52,8 +52,8 @@ _cbsrun() {
         help,*) _cbsrun_words check size simulate replay serve ;;
         check,yes,-*) _cbsrun_words --as --strict -h --help ;;
         size,yes,-*) _cbsrun_words --all -h --help ;;
-        simulate,yes,-*) _cbsrun_words --as --from --to --seed --until --seeds --strict -h --help ;;
-        replay,yes,-*) _cbsrun_words --as --from --to -h --help ;;
+        simulate,yes,-*) _cbsrun_words --as --from --to --server --seed --until --seeds --strict -h --help ;;
+        replay,yes,-*) _cbsrun_words --as --from --to --server -h --help ;;
         *,yes,-*) _cbsrun_words -h --help ;;
         *) _cbsrun_files ;;
     esac

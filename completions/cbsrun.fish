@@ -27,6 +27,7 @@ complete -c cbsrun -n $simulated -l as -x -a 'report json text svg trace lines c
 complete -c cbsrun -n $replayed -l as -x -a 'lines report json text svg trace' -d 'what is written'
 complete -c cbsrun -n $formed -l from -x -d 'the first tick that is shown'
 complete -c cbsrun -n $formed -l to -x -d 'the tick after the last one that is shown'
+complete -c cbsrun -n $formed -l server -x -d 'a server that is drawn; may be given several times'
 complete -c cbsrun -n $simulated -l seed -x -d 'the seed of the numbers that are drawn'
 complete -c cbsrun -n $simulated -l until -x -d 'the tick at which the simulation ends'
 complete -c cbsrun -n $simulated -l seeds -x -d 'many simulations, one with each of these seeds'

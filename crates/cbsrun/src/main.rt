@@ -81,6 +81,7 @@ fn answered<R: Threads + Clock + Sync, P: Progress, O: ByteOutput, E: ByteOutput
     requires err { MayWrite (E.state err.old) }
 {
     let name = asked.file.as_str();
+    let servers = asked.servers.as_slice();
     match asked.action {
         Action::Check { form, strict } => {
             check_bytes_within(alloc, memory, form, strict, name, bytes, out, err)
@@ -98,14 +99,14 @@ fn answered<R: Threads + Clock + Sync, P: Progress, O: ByteOutput, E: ByteOutput
         Action::SweepLoad(sweep) => {
             sweep_bytes_within(alloc, memory, sweep, name, bytes, out, err)
         }
-        Action::DrawLoad(drawing, ticks, changes) => draw_load_within(
-            alloc, memory, drawing, ticks, changes, name, bytes, progress, out, err,
+        Action::DrawLoad(drawing, changes) => draw_load_within(
+            alloc, memory, drawing, servers, changes, name, bytes, progress, out, err,
         ),
         Action::ReportTasks(form) => report_bytes_within(
             alloc, memory, form, name, bytes, out, err,
         ),
-        Action::DrawTasks(drawing, ticks) => {
-            draw_tasks_within(alloc, memory, drawing, ticks, name, bytes, out, err)
+        Action::DrawTasks(drawing) => {
+            draw_tasks_within(alloc, memory, drawing, servers, name, bytes, out, err)
         }
         Action::Run(verb) => run_bytes_within(threads, alloc, memory, verb, bytes, out, err),
     }

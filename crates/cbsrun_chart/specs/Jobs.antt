@@ -22,6 +22,16 @@ job_of job number promised = record { number = number; came = job.came; units = 
 abbrev pub job_numbered : ℕ → List ChartJob → Option ChartJob
 job_numbered j jobs = find (λ job. eqb job.number j) jobs
 
+-- the numbers of the jobs are this one, the next one, and so on
+abbrev pub are_numbered_from : ℕ → List ChartJob → Bool
+are_numbered_from j [] = true
+are_numbered_from j (job ∷ jobs) = eqb job.number j && are_numbered_from (j + 1) jobs
+
+-- the numbers of the jobs go on by one from each job to the next
+abbrev pub are_in_turn : List ChartJob → Bool
+are_in_turn [] = true
+are_in_turn (job ∷ jobs) = are_numbered_from job.number (job ∷ jobs)
+
 -- the job, finished at a tick
 abbrev pub finished_at : ℕ → ChartJob → ChartJob
 finished_at clock job =

@@ -1,4 +1,5 @@
 pub mod Charts
+pub mod Chosen
 pub mod Courses
 pub mod Hidden
 pub mod Jobs

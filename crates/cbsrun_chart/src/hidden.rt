@@ -1,7 +1,7 @@
-//! The ticks of a run that a picture does not show.
+//! What a picture does not show of a run: ticks, and servers.
 
 ghost use Rattle.std.specs.Prelude.{◌≡◌};
-ghost use Rattle.cbsrun_chart.specs.Hidden.{hidden_of};
+ghost use Rattle.cbsrun_chart.specs.Hidden.{hidden_of, left_out_of};
 
 use crate::picture::Picture;
 use cbsrun_window::Window;
@@ -46,11 +46,46 @@ impl Hidden {
     }
 }
 
+/// The servers of a run that a picture does not draw, in words: `Not shown: 3 servers.`
+#[derive(Clone, Copy, Debug, PartialEq, Eq)]
+pub struct LeftOut {
+    /// How many servers are not drawn.
+    pub servers: u64,
+}
+
+impl fmt::Display for LeftOut {
+    ghost use Rattle.std.specs.Prelude.{Some};
+    ghost use Rattle.cbsrun_chart.specs.Hidden.{left_out_text};
+
+    ghost output = { λ o. Some (left_out_text o) };
+
+    #[tactic(auto, unfolding(crate::specs::Hidden::left_out_text))]
+    fn fmt<W: fmt::Write>(&self, f: &mut fmt::Formatter<W>) -> fmt::Result {
+        let servers = self.servers;
+        if servers == 1 {
+            return f.write_str("Not shown: 1 server.");
+        }
+        write!(f, "Not shown: {servers} servers.")
+    }
+}
+
 impl Picture {
     /// Returns the ticks of the run that the picture does not show, or `None` if it shows the whole run.
     pub fn hidden(&self) -> Option<Hidden>
         ensures { result ≡ hidden_of self.now.window self.now.end }
     {
         Hidden::of(self.window, self.end)
+    }
+
+    /// Returns the servers of the run that the picture does not draw, or `None` if it draws all.
+    pub fn left_out(&self) -> Option<LeftOut>
+        ensures { result ≡ left_out_of self.now.others }
+    {
+        if self.others == 0 {
+            return None;
+        }
+        Some(LeftOut {
+            servers: self.others,
+        })
     }
 }

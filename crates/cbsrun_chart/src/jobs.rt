@@ -1,9 +1,9 @@
 //! The jobs of one server.
 
-ghost use Rattle.std.specs.Prelude.{◌≡◌, ◌++◌, ◌∷◌, [], IfOk, OnOk};
+ghost use Rattle.std.specs.Prelude.{◌≡◌, ◌++◌, ◌∷◌, [], IfOk, OnOk, true};
 ghost use Rattle.std.specs.Option.{option_map};
 ghost use Rattle.cbsrun_events.specs.declared.seen.Event.{Event};
-ghost use Rattle.cbsrun_chart.specs.Jobs.{all_jobs, completions, finished_at, is_shown, job_numbered, job_of};
+ghost use Rattle.cbsrun_chart.specs.Jobs.{all_jobs, are_in_turn, completions, finished_at, is_shown, job_numbered, job_of};
 ghost use Rattle.cbsrun_chart.specs.Jobs.{jobs_after, jobs_after_run, jobs_settled, late_stretch, no_jobs};
 
 use cbs_steps::Ran;
@@ -36,6 +36,35 @@ pub fn job_numbered(number: u64, jobs: &[ChartJob]) -> Option<ChartJob>
     ensures { result ≡ job_numbered number jobs.now }
 {
     jobs.iter().copied().find(|job| job.number == number)
+}
+
+/// Returns whether the numbers of jobs go on by one from each job to the next.
+pub fn are_in_turn(jobs: &[ChartJob]) -> bool
+    ensures { result ≡ are_in_turn jobs.now }
+{
+    let Some(first) = jobs.first() else {
+        return true;
+    };
+    for (place, job) in jobs.iter().enumerate() {
+        if job.number.checked_sub(first.number) != Some(place as u64) {
+            return false;
+        }
+    }
+    true
+}
+
+/// Returns the job with this number, or `None` if it is not among the jobs, whose numbers go on by one. Looks at one job,
+/// however many there are.
+pub fn job_in_turn(number: u64, jobs: &[ChartJob]) -> Option<ChartJob>
+    requires { are_in_turn jobs.now ≡ true }
+    ensures { result ≡ job_numbered number jobs.now }
+{
+    match jobs.first() {
+        Some(first) if first.number <= number => {
+            jobs.get((number - first.number) as usize).copied()
+        }
+        _ => None,
+    }
 }
 
 /// Returns the ticks up to the window's end at which these jobs ended. The only error is out of memory.

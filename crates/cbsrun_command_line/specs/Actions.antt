@@ -24,9 +24,9 @@ action_name (action.ReportLoad report) = codes "simulate"
 action_name (action.WriteLoadLines changes) = codes "simulate"
 action_name (action.WriteLoadJobs changes) = codes "simulate"
 action_name (action.SweepLoad sweep) = codes "simulate"
-action_name (action.DrawLoad drawing ticks changes) = codes "simulate"
+action_name (action.DrawLoad drawn changes) = codes "simulate"
 action_name (action.ReportTasks form) = codes "replay"
-action_name (action.DrawTasks drawing ticks) = codes "replay"
+action_name (action.DrawTasks drawn) = codes "replay"
 action_name (action.Run verb) = name_of verb
 
 -- the word of each form of a report

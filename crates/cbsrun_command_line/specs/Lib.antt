@@ -1,4 +1,5 @@
 pub mod Actions
 pub mod Faults
+pub mod Fits
 pub mod Options
 pub mod Words

@@ -1,17 +1,23 @@
 -- The options of a command, and what they ask for.
-use Rattle.std.specs.Prelude.{◌≡◌, ⊤, ℕ, Bool, false, ◌+◌, ◌<◌, ◌≤◌, ◌^◌, eqb, ltb, length, min, bytes_eq, codes, if◌then◌else◌, MatchOption, option_map, List, [], ◌∷◌}
-use Rattle.std.specs.Prelude.{option_and_then, Option, Some, None}
+use Rattle.std.specs.Prelude.{◌≡◌, ⊤, ℕ, Bool, false, ◌+◌, ◌<◌, ◌≤◌, ◌^◌, eqb, ltb, length, min, bytes_eq, codes, if◌then◌else◌, MatchOption, option_map}
+use Rattle.std.specs.Prelude.{◌||◌, is_some, option_and_then, Option, Some, None, Result}
 use Rattle.std.specs.List.{position_or_len, before_first, after_first}
 use Rattle.std.specs.Borrow.{Bor}
 use Rattle.std.specs.Str.Parse.{IsNumeral, digits_value, without_leading_plus}
 use Rattle.clap.specs.Lexer.{strip_byte}
 use Rattle.clap.specs.Words.{Text}
+use Rattle.cbsrun_window.specs.Windows.{AnswersLong, AnswersWindow}
 use Rattle.cbsrun_window.specs.declared.window.Window.{Window}
+use Rattle.cbsrun_window.specs.declared.window.WindowError.{WindowError}
+use Rattle.cbsrun_command_line.specs.Fits.{Fits, most_ticks}
 use Rattle.cbsrun_command_line.specs.Actions.{action_name, drawing_name, form_name, sweep_form_name}
 use Rattle.cbsrun_command_line.specs.declared.actions.Action.{Action}
 use Rattle.cbsrun_command_line.specs.declared.actions.Action.TheVariants as action
 use Rattle.cbsrun_command_line.specs.declared.actions.Changes.{Changes}
 use Rattle.cbsrun_command_line.specs.declared.actions.Form.TheVariants.{Report}
+use Rattle.cbsrun_command_line.specs.declared.actions.Drawing.{Drawing}
+use Rattle.cbsrun_command_line.specs.declared.actions.Drawing.TheVariants.{Trace}
+use Rattle.cbsrun_command_line.specs.declared.run_drawing.RunDrawing.{RunDrawing}
 use Rattle.cbsrun_command_line.specs.declared.actions.Seeds.{Seeds}
 use Rattle.cbsrun_command_line.specs.declared.actions.SweepForm.TheVariants.{Report as ManyReport}
 use Rattle.cbsrun_command_line.specs.declared.actions.Verb.TheVariants.{Replay, Serve}
@@ -22,12 +28,13 @@ abbrev pub Finds : {A : Type 0} → Option A → (A → Type 0) → Type 0
 Finds {A} found Is = MatchOption found ((x : A) → ¬ (Is x)) Is
 
 -- the texts of the options that are given: the form of the output, the first tick to show, and the tick after the last
--- one; the seed, and the tick at which a simulation ends; the seeds of many runs; whether the status is to tell the answer; whether each server
+-- one; the first of the names of the servers to draw; the seed, and the tick at which a simulation ends; the seeds of many runs; whether the status is to tell the answer; whether each server
 -- is to get a reservation
 pub record Said : Type 0 where
   pub form : Option Text
   pub from : Option Text
   pub to : Option Text
+  pub server : Option Text
   pub seed : Option Text
   pub until : Option Text
   pub seeds : Option Text
@@ -44,6 +51,7 @@ said o = record {
   form = text_of o.form;
   from = text_of o.from;
   to = text_of o.to;
+  server = text_of o.server;
   seed = text_of o.seed;
   until = text_of o.until;
   seeds = text_of o.seeds;
@@ -69,10 +77,27 @@ abbrev pub IsTick : Option Text → ℕ → ℕ → Type 0
 IsTick None otherwise n = n ≡ otherwise
 IsTick (Some text) otherwise n = Spells text n
 
--- The ticks that are asked for. If an option is not there, the first tick is 0, or as many ticks as possible are shown
--- at a time, within 2^64.
-abbrev pub AsksTicks : Option Text → Option Text → Window → Type 0
-AsksTicks from to w = IsTick from 0 w.from × IsTick to (min (w.from + 20000) 18446744073709551615) w.to
+-- where the ticks of a drawing end, by the first tick, if no option says so: as late as the drawing can show, within 2^64
+abbrev pub last_end : Drawing → ℕ → ℕ
+last_end drawing first = min (first + most_ticks drawing) 18446744073709551615
+
+-- the window of the ticks from one up to another, if the drawing can show them, or else why it cannot
+abbrev pub AnswersFit : Drawing → ℕ → ℕ → Result Window WindowError → Type 0
+AnswersFit Trace first end r = AnswersLong first end r
+AnswersFit drawing first end r = AnswersWindow first end r
+
+-- The ticks that are asked for, which the drawing can show. If an option is not there, the first tick is 0, or the ticks
+-- end as late as possible.
+abbrev pub AsksTicks : Drawing → Option Text → Option Text → Window → Type 0
+AsksTicks drawing from to w = IsTick from 0 w.from × IsTick to (last_end drawing w.from) w.to × Fits drawing w
+
+-- the drawing of a run that is asked for: its form, its ticks, and whether the option for their end is there
+abbrev pub AsksDrawing : Option Text → Option Text → Option Text → RunDrawing → Type 0
+AsksDrawing form from to d = (form ≡ Some (drawing_name d.drawing)) × AsksTicks d.drawing from to d.ticks × (d.bounded ≡ is_some to)
+
+-- an option is given that goes with drawings alone
+abbrev pub is_for_drawings : Said → Bool
+is_for_drawings s = is_some s.from || is_some s.to || is_some s.server
 
 -- the number from `least` to `greatest` that an option gives, or none if the option is not there
 abbrev pub IsNumber : ℕ → ℕ → Option Text → Option ℕ → Type 0
@@ -130,17 +155,18 @@ AsksRest s (action.WriteLoadLines changes) = AsksChanges s.seed s.until changes 
 AsksRest s (action.WriteLoadJobs changes) = AsksChanges s.seed s.until changes × (is_given s.strict ≡ false) × (s.seeds ≡ None)
 AsksRest s (action.SweepLoad sweep) = MatchOption s.seeds ⊥ (λ text. AsksSeeds text sweep.seeds) × (s.seed ≡ None)
     × AsksChanges s.seed s.until sweep.changes × (sweep.strict ≡ is_given s.strict)
-AsksRest s (action.DrawLoad drawing ticks changes) = AsksChanges s.seed s.until changes × (is_given s.strict ≡ false) × (s.seeds ≡ None)
+AsksRest s (action.DrawLoad drawn changes) = AsksChanges s.seed s.until changes × (is_given s.strict ≡ false) × (s.seeds ≡ None)
 AsksRest s _ = ⊤
 
--- The form that the options ask for. A drawing has ticks, and the other forms have none. Size and serve have one form
+-- The form that the options ask for. A drawing has ticks, and perhaps names of servers, and the other forms have none. Size
+-- and serve have one form
 abbrev pub AsksForm : Said → Action → Type 0
-AsksForm s (action.DrawLoad drawing ticks changes) = (s.form ≡ Some (drawing_name drawing)) × AsksTicks s.from s.to ticks
-AsksForm s (action.DrawTasks drawing ticks) = (s.form ≡ Some (drawing_name drawing)) × AsksTicks s.from s.to ticks
+AsksForm s (action.DrawLoad drawn changes) = AsksDrawing s.form s.from s.to drawn
+AsksForm s (action.DrawTasks drawn) = AsksDrawing s.form s.from s.to drawn
 AsksForm s (action.Run Serve) = ⊤
 AsksForm s (action.Check form strict) = AsksPlain s.form (action.Check form strict)
 AsksForm s (action.Size all) = ⊤
-AsksForm s a = AsksPlain s.form a × (s.from ≡ None) × (s.to ≡ None)
+AsksForm s a = AsksPlain s.form a × (is_for_drawings s ≡ false)
 
 -- the options ask for the action
 abbrev pub Asks : Said → Action → Type 0

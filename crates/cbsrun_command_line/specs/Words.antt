@@ -1,7 +1,7 @@
 -- The command line as `clap` sees it.
-use Rattle.std.specs.Prelude.{◌≡◌, ◌⊎◌, List, codes, true, Option, Some, string_bytes}
-use Rattle.clap.specs.declared.builder.action.ArgAction.TheVariants.{SetTrue}
-use Rattle.clap.specs.Words.{App, Row, Rule, Text, fault_of, first_of, new_app, new_rule, subcommand_of, takes, with_rule, with_subcommand}
+use Rattle.std.specs.Prelude.{◌≡◌, ◌⊎◌, List, [], codes, map, true, Option, Some, string_bytes, unwrap_or}
+use Rattle.clap.specs.declared.builder.action.ArgAction.TheVariants.{Append, SetTrue}
+use Rattle.clap.specs.Words.{App, Row, Rule, Text, all_of, fault_of, first_of, new_app, new_rule, subcommand_of, takes, with_rule, with_subcommand}
 use Rattle.cbsrun_command_line.specs.Actions.{action_name}
 use Rattle.cbsrun_command_line.specs.Options.{Said, Asks}
 use Rattle.cbsrun_command_line.specs.Faults.{TellsOfKinds}
@@ -25,13 +25,19 @@ option name = record (new_rule name) { long = Some name; value_names = 1 }
 abbrev pub with_option : App → Text → App
 with_option verb name = with_rule verb (option name)
 
+-- a verb with one more option, which may be given several times
+abbrev pub with_options : App → Text → App
+with_options verb name = with_rule verb (record (option name) { action = Some Append })
+
 -- a verb with one more option, which has no value
 abbrev pub with_flag : App → Text → App
 with_flag verb name = with_rule verb (record (new_rule name) { long = Some name; action = Some SetTrue })
 
--- the verb of this name, which takes a file, the form of its output, and the ticks to show
+-- the verb of this name, which takes a file, the form of its output, the ticks to show, and the servers to draw
 abbrev pub in_a_form : Text → App
-in_a_form name = with_option (with_option (with_option (on_file name) (codes "as")) (codes "from")) (codes "to")
+in_a_form name =
+    let shown = with_option (with_option (with_option (on_file name) (codes "as")) (codes "from")) (codes "to") in
+    with_options shown (codes "server")
 
 -- a subcommand is required
 abbrev pub required : App → App
@@ -75,6 +81,7 @@ said_in rows = record {
   form = first_of (codes "as") rows;
   from = first_of (codes "from") rows;
   to = first_of (codes "to") rows;
+  server = first_of (codes "server") rows;
   seed = first_of (codes "seed") rows;
   until = first_of (codes "until") rows;
   seeds = first_of (codes "seeds") rows;
@@ -82,11 +89,15 @@ said_in rows = record {
   all = first_of (codes "all") rows;
 }
 
--- the subcommand that was found asks, with its rows, for the action and the file
+-- the texts that the rows of a subcommand give for an option that may be given several times
+abbrev pub texts_in : List Row → Text → List Text
+texts_in rows name = unwrap_or (all_of name rows) []
+
+-- the subcommand that was found asks, with its rows, for the action, the file, and the names of the servers to draw
 abbrev pub IsAsked : Option (Text × List Row) → Asked → Type 0
 IsAsked found asked =
     (rows : List Row) × (found ≡ Some (action_name asked.action, rows)) × Asks (said_in rows) asked.action
-    × (first_of (codes "FILE") rows ≡ Some (string_bytes asked.file))
+    × (first_of (codes "FILE") rows ≡ Some (string_bytes asked.file)) × (map string_bytes asked.servers.items ≡ texts_in rows (codes "server"))
 
 -- the subcommand that the words name asks for the action and the file
 abbrev pub Names : List Text → Asked → Type 0

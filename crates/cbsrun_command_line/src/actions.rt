@@ -2,7 +2,7 @@
 
 ghost use Rattle.std.specs.Prelude.{◌≤◌, unwrap_or};
 
-use cbsrun_window::Window;
+use crate::run_drawing::RunDrawing;
 
 /// The greatest seed of a load.
 pub const MOST_SEED: u64 = 9_223_372_036_854_775_807;
@@ -124,12 +124,12 @@ pub enum Action {
     WriteLoadJobs(Changes),
     /// Many simulations of a load, with one seed after another.
     SweepLoad(LoadSweep),
-    /// The simulation of a load with these changes, with a drawing of these ticks.
-    DrawLoad(Drawing, Window, Changes),
+    /// The simulation of a load with these changes, with this drawing.
+    DrawLoad(RunDrawing, Changes),
     /// The replay of a task file, with a report in this form.
     ReportTasks(Form),
-    /// The replay of a task file, with a drawing of these ticks.
-    DrawTasks(Drawing, Window),
+    /// The replay of a task file, with this drawing.
+    DrawTasks(RunDrawing),
     /// The replay of a task file with a line for each step, or its service.
     Run(Verb),
 }
@@ -141,4 +141,6 @@ pub struct Asked {
     pub action: Action,
     /// The name of the file.
     pub file: String,
+    /// The names of the servers that are to be drawn. Without one, all are.
+    pub servers: Vec<String>,
 }

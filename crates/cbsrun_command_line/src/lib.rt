@@ -4,6 +4,7 @@
 mod actions;
 mod fault;
 mod options;
+mod run_drawing;
 mod texts;
 mod words;
 
@@ -13,4 +14,5 @@ pub use actions::{
 };
 pub use cbsrun_window::Window;
 pub use fault::WordsFault;
+pub use run_drawing::RunDrawing;
 pub use words::read_words;

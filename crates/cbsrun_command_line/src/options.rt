@@ -3,13 +3,15 @@
 ghost use Rattle.std.specs.Prelude.{◌≡◌, codes, option_map, IfOk, None, Some};
 ghost use Rattle.cbsrun_command_line.specs.Actions.{drawing_name, form_name, sweep_form_name};
 ghost use Rattle.cbsrun_command_line.specs.Faults.{words_fault_number};
-ghost use Rattle.cbsrun_command_line.specs.Options.{AsksChanges, AsksFor, AsksPlainly, AsksSeeds, AsksTicks, Finds, after_dot, around_dot, IsNumber, IsTick, is_given, said, seeds_in, text_of};
+ghost use Rattle.cbsrun_command_line.specs.Fits.{most_ticks};
+ghost use Rattle.cbsrun_command_line.specs.Options.{AnswersFit, AsksChanges, AsksDrawing, AsksFor, AsksPlainly, AsksSeeds, AsksTicks, Finds, after_dot, around_dot, IsNumber, IsTick, is_for_drawings, is_given, last_end, said, seeds_in, text_of};
 
 use crate::actions::{
     Action, Changes, Drawing, Form, LAST_END, LoadReport, LoadSweep, MOST_RUNS, MOST_SEED, Seeds,
     SweepForm, Verb,
 };
 use crate::fault::WordsFault;
+use crate::run_drawing::RunDrawing;
 use cbsrun_window::{MOST_TICKS, Window, WindowError};
 use std::alloc::{AllocError, Global};
 use std::fmt::Write;
@@ -24,6 +26,8 @@ pub(crate) struct Options<'a> {
     pub from: Option<&'a str>,
     /// The tick after the last one to show.
     pub to: Option<&'a str>,
+    /// The first of the names of the servers to draw.
+    pub server: Option<&'a str>,
     /// The seed of a load.
     pub seed: Option<&'a str>,
     /// The tick at which the simulation of a load ends.
@@ -47,14 +51,56 @@ fn tick_of(said: Option<&str>, otherwise: u64) -> Option<u64>
     }
 }
 
+/// Returns how many ticks a drawing can show at a time.
+fn most_ticks(drawing: Drawing) -> u64
+    ensures { result ≡ most_ticks drawing }
+{
+    match drawing {
+        Drawing::Svg | Drawing::Text => MOST_TICKS,
+        Drawing::Trace => u64::MAX,
+    }
+}
+
+/// Returns where the ticks of a drawing end whose first tick is `first`, if no option says so: as late as the drawing can
+/// show.
+fn last_end(drawing: Drawing, first: u64) -> u64
+    ensures { result ≡ last_end drawing first }
+{
+    first.saturating_add(most_ticks(drawing))
+}
+
+/// Returns the window of the ticks from `first` up to `end`, or why a drawing cannot show them.
+fn window_in(drawing: Drawing, first: u64, end: u64) -> Result<Window, WindowError>
+    ensures { AnswersFit drawing first end result }
+{
+    match drawing {
+        Drawing::Trace => Window::long(first, end),
+        Drawing::Svg | Drawing::Text => Window::new(first, end),
+    }
+}
+
 /// Returns the ticks that the options `--from` and `--to` ask for. Returns `None` if they ask for no ticks, or for more
-/// than can be shown at a time.
-fn ticks_of(from: Option<&str>, to: Option<&str>) -> Option<Window>
-    ensures { Finds result (AsksTicks (text_of from.entry) (text_of to.entry)) }
+/// than the drawing can show.
+fn ticks_of(drawing: Drawing, from: Option<&str>, to: Option<&str>) -> Option<Window>
+    ensures { Finds result (AsksTicks drawing (text_of from.entry) (text_of to.entry)) }
 {
     let first = tick_of(from, 0)?;
-    let end = tick_of(to, first.saturating_add(MOST_TICKS))?;
-    Window::new(first, end).ok()
+    let end = tick_of(to, last_end(drawing, first))?;
+    window_in(drawing, first, end).ok()
+}
+
+/// Returns the drawing that the options ask for in this form. Returns `None` if they ask for no ticks, or for more than the
+/// drawing can show.
+fn drawing_with(drawing: Drawing, from: Option<&str>, to: Option<&str>) -> Option<RunDrawing>
+    ensures { Finds result (AsksDrawing (Some (drawing_name drawing)) (text_of from.entry)
+        (text_of to.entry)) }
+{
+    let ticks = ticks_of(drawing, from, to)?;
+    Some(RunDrawing {
+        drawing,
+        ticks,
+        bounded: to.is_some(),
+    })
 }
 
 /// Returns the number that an option gives, or `Some(None)` if the option is not there. Returns `None` if its text is no
@@ -163,6 +209,13 @@ fn drawing_of(form: Option<&str>) -> Option<Drawing>
     }
 }
 
+/// Returns whether an option is given that goes with drawings alone.
+fn is_for_drawings(options: Options<'_>) -> bool
+    ensures { result ≡ is_for_drawings (said options.entry) }
+{
+    options.from.is_some() || options.to.is_some() || options.server.is_some()
+}
+
 /// Returns the action of `simulate` with these options for a form that shows no ticks. Without a form, this is the report
 /// as text. Returns `None` if no such form has this name, if a number is out of its range, or if the lines or the jobs are
 /// to be strict.
@@ -208,8 +261,8 @@ fn drawn_load(drawing: Drawing, options: Options<'_>) -> Option<Action>
     if is_given(options.strict) {
         return None;
     }
-    let ticks = ticks_of(options.from, options.to)?;
-    Some(Action::DrawLoad(drawing, ticks, changes))
+    let drawn = drawing_with(drawing, options.from, options.to)?;
+    Some(Action::DrawLoad(drawn, changes))
 }
 
 /// Returns the action of `simulate` with these options for one run. Returns `None` if they ask for none.
@@ -220,7 +273,7 @@ fn simulated_once(options: Options<'_>) -> Option<Action>
     if let Some(drawing) = drawing_of(options.form) {
         return drawn_load(drawing, options);
     }
-    if options.from.is_some() || options.to.is_some() {
+    if is_for_drawings(options) {
         return None;
     }
     simulated_as(options)
@@ -233,7 +286,7 @@ fn swept_as(options: Options<'_>, seeds: &str) -> Option<Action>
     requires { text_of options.seeds ≡ Some seeds.now }
     ensures { Finds result (AsksFor (codes "simulate") (said options.entry)) }
 {
-    if options.seed.is_some() || options.from.is_some() || options.to.is_some() {
+    if options.seed.is_some() || is_for_drawings(options) {
         return None;
     }
     let seeds = seeds_of(seeds)?;
@@ -265,10 +318,10 @@ fn replayed_with(options: Options<'_>) -> Option<Action>
     ensures { Finds result (AsksFor (codes "replay") (said options.entry)) }
 {
     if let Some(drawing) = drawing_of(options.form) {
-        let ticks = ticks_of(options.from, options.to)?;
-        return Some(Action::DrawTasks(drawing, ticks));
+        let drawn = drawing_with(drawing, options.from, options.to)?;
+        return Some(Action::DrawTasks(drawn));
     }
-    if options.from.is_some() || options.to.is_some() {
+    if is_for_drawings(options) {
         return None;
     }
     replayed_as(options)
@@ -329,19 +382,20 @@ fn append_no_tick(text: &mut String, option: &str, said: Option<&str>) -> Result
     writeln!(text, "  [a whole number below 2^64 is wanted]")
 }
 
-/// Appends why the two options ask for no ticks that can be shown at a time.
+/// Appends why the two options ask for no ticks that a drawing can show.
 fn append_no_ticks(
     text: &mut String,
+    drawing: Drawing,
     from: Option<&str>,
     to: Option<&str>,
 ) -> Result<(), AllocError> {
     let Some(first) = tick_of(from, 0) else {
         return append_no_tick(text, "from", from);
     };
-    let Some(end) = tick_of(to, first.saturating_add(MOST_TICKS)) else {
+    let Some(end) = tick_of(to, last_end(drawing, first)) else {
         return append_no_tick(text, "to", to);
     };
-    match Window::new(first, end) {
+    match window_in(drawing, first, end) {
         Ok(_) => Ok(()),
         Err(WindowError::Empty) => {
             writeln!(text, "error: there is no tick from {first} up to {end}")?;
@@ -349,7 +403,10 @@ fn append_no_ticks(
         }
         Err(WindowError::TooLong) => {
             writeln!(text, "error: too many ticks from {first} up to {end}")?;
-            writeln!(text, "  [at most {MOST_TICKS} are shown at a time]")
+            writeln!(
+                text,
+                "  [at most {MOST_TICKS} are shown at a time; '--as trace' has no such limit]"
+            )
         }
     }
 }
@@ -380,6 +437,7 @@ fn append_wrong_form(
     let unlimited = Options {
         from: None,
         to: None,
+        server: None,
         strict: None,
         ..options
     };
@@ -392,8 +450,14 @@ fn append_wrong_form(
             "error: --strict goes with '--as report' and '--as json' alone"
         );
     }
-    if drawing_of(options.form).is_some() {
-        return append_no_ticks(text, options.from, options.to);
+    if let Some(drawing) = drawing_of(options.form) {
+        return append_no_ticks(text, drawing, options.from, options.to);
+    }
+    if options.from.is_none() && options.to.is_none() {
+        return writeln!(
+            text,
+            "error: --server goes with '--as text', '--as svg' and '--as trace' alone"
+        );
     }
     writeln!(
         text,

@@ -121,8 +121,12 @@ pub(crate) const FROM: &str =
     "The first tick that a picture, a timeline or a trace shows [default: 0]";
 
 pub(crate) const TO: &str =
-    "The tick after the last one that it shows: at most 20000 later [default: the end, \
-or as many]";
+    "The tick after the last one that it shows: at most 20000 later, but of a trace [default: \
+the end, or as many]";
+
+pub(crate) const SERVER: &str =
+    "The name of a server to draw, in a picture, a timeline or a trace; may be given several times \
+[default: all servers]";
 
 pub(crate) const SEED: &str =
     "The seed of the numbers that are drawn, in place of the load's own: 0 to 2^63 - 1";

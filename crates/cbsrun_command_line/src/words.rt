@@ -1,10 +1,10 @@
 //! The words of a command line, as `clap` sees them.
 
 ghost use Rattle.std.specs.Prelude.{◌≡◌, ◌≢◌, codes, IfOk, IfErr, false, map, string_bytes};
-ghost use Rattle.clap.specs.Words.{app_of, kind_of, subcommand_rows_of};
+ghost use Rattle.clap.specs.Words.{app_of, found_of, kind_of, rows_of, subcommand_rows_of};
 ghost use Rattle.clap.specs.declared.builder.command.Command.TheViews.{out-Command};
 ghost use Rattle.cbsrun_command_line.specs.Faults.{number_of, words_fault_number};
-ghost use Rattle.cbsrun_command_line.specs.Words.{command_line, checking, simulating, sizing, on_file, in_a_form, with_option, with_flag, with_verb, bare_program, IsAsked, Names, AreTaken, TellsOf};
+ghost use Rattle.cbsrun_command_line.specs.Words.{command_line, checking, texts_in, simulating, sizing, on_file, in_a_form, with_option, with_options, with_flag, with_verb, bare_program, IsAsked, Names, AreTaken, TellsOf};
 ghost use Rattle.cbsrun_command_line.specs.declared.fault.WordsFault.TheVariants.{OutOfMemory};
 
 use crate::actions::Asked;
@@ -12,7 +12,7 @@ use crate::fault::WordsFault;
 use crate::options::{Options, action_of, wrong_options};
 use crate::texts::{
     ABOUT, ALL, CHECK, CHECKS, FILES, FROM, GUIDE, IN_TIME, PROMISED, REPLAY, REPORTS, SEED, SEEDS,
-    SERVE, SIMULATE, SIZE, TO, TRACES, UNTIL, VERSION,
+    SERVE, SERVER, SIMULATE, SIZE, TO, TRACES, UNTIL, VERSION,
 };
 use clap::error::ErrorKind;
 use clap::{Arg, ArgAction, ArgMatches, Command, Error};
@@ -45,6 +45,22 @@ fn with_option<'a>(
     verb.arg(option.value_name(value))
 }
 
+/// Returns a verb with one more option, which may be given several times, and whose value is called so.
+fn with_options<'a>(
+    alloc: Global,
+    verb: Command<'a>,
+    name: &'a str,
+    value: &'a str,
+    help: &'a str,
+) -> Result<Command<'a>, AllocError>
+    ensures app { IfOk result (λ c. app_of c ≡ with_options (app_of verb.entry) name.now) }
+    ensures local { (out-Command verb.entry).has_globals ≡ false
+        → IfOk result (λ c. (out-Command c).has_globals ≡ false) }
+{
+    let option = Arg::new(alloc, name).long(name).help(help);
+    verb.arg(option.value_name(value).action(ArgAction::Append))
+}
+
 /// Returns a verb with one more option, which has no value.
 fn with_flag<'a>(
     alloc: Global,
@@ -60,7 +76,7 @@ fn with_flag<'a>(
     verb.arg(option.action(ArgAction::SetTrue))
 }
 
-/// Returns the verb of this name, which takes a file, the form of its output, and the ticks to show.
+/// Returns the verb of this name, which takes a file, the form of its output, the ticks to show, and the servers to draw.
 fn in_a_form<'a>(
     alloc: Global,
     name: &'a str,
@@ -73,7 +89,8 @@ fn in_a_form<'a>(
     let verb = on_file(alloc, name, about)?;
     let verb = with_option(alloc, verb, "as", "FORMAT", forms)?;
     let verb = with_option(alloc, verb, "from", "TICK", FROM)?;
-    with_option(alloc, verb, "to", "TICK", TO)
+    let verb = with_option(alloc, verb, "to", "TICK", TO)?;
+    with_options(alloc, verb, "server", "NAME", SERVER)
 }
 
 /// Returns the verb that checks a file.
@@ -177,6 +194,29 @@ fn incomplete(alloc: Global) -> Result<WordsFault, AllocError>
     Ok(WordsFault::Usage(text))
 }
 
+/// Returns copies of texts. The only error is out of memory.
+fn copies_of(alloc: Global, texts: &[&str]) -> Result<Vec<String>, AllocError>
+    ensures { IfOk result (λ copies. map string_bytes copies.items
+        ≡ map (λ text. text.now) texts.now) }
+{
+    let mut copies = Vec::with_capacity(alloc, texts.len())?;
+    for text in texts {
+        copies.push(String::from_str(alloc, text)?)?;
+    }
+    Ok(copies)
+}
+
+/// Returns the texts of an option that may be given several times, in order. The only error is out of memory.
+fn texts_of(alloc: Global, matches: &ArgMatches, name: &str) -> Result<Vec<String>, AllocError>
+    ensures { IfOk result (λ texts. map string_bytes texts.items
+        ≡ texts_in (rows_of (found_of matches.now)) name.now) }
+{
+    match matches.get_strs(name) {
+        Some(texts) => copies_of(alloc, texts),
+        None => Ok(Vec::new(alloc)),
+    }
+}
+
 /// Returns the request of the subcommand that `clap` found. Refuses if its options ask for no action, or if out of
 /// memory.
 fn asked_in(alloc: Global, matches: &ArgMatches) -> Result<Asked, WordsFault>
@@ -191,6 +231,7 @@ fn asked_in(alloc: Global, matches: &ArgMatches) -> Result<Asked, WordsFault>
     let form = inner.get_str("as");
     let from = inner.get_str("from");
     let to = inner.get_str("to");
+    let server = inner.get_str("server");
     let seed = inner.get_str("seed");
     let until = inner.get_str("until");
     let seeds = inner.get_str("seeds");
@@ -200,6 +241,7 @@ fn asked_in(alloc: Global, matches: &ArgMatches) -> Result<Asked, WordsFault>
         form,
         from,
         to,
+        server,
         seed,
         until,
         seeds,
@@ -213,7 +255,12 @@ fn asked_in(alloc: Global, matches: &ArgMatches) -> Result<Asked, WordsFault>
         return Err(incomplete(alloc)?);
     };
     let file = String::from_str(alloc, file)?;
-    Ok(Asked { action, file })
+    let servers = texts_of(alloc, inner, "server")?;
+    Ok(Asked {
+        action,
+        file,
+        servers,
+    })
 }
 
 /// Returns the request of the words. The program's name is the first word.

@@ -5,3 +5,5 @@ pub mod ManyRuns
 pub mod ResultLines
 pub mod Printings
 pub mod Endings
+pub mod Drawings
+pub mod Wanted

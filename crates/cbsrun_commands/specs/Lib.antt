@@ -1,4 +1,5 @@
 pub mod Commands
+pub mod Drawings
 pub mod Environment
 pub mod FaultLines
 pub mod Outputs

@@ -170,36 +170,3 @@ abbrev pub IsDrawn : Drawing → Picture → List ℕ → Type 0
 IsDrawn Svg p text = text ≡ svg_text p
 IsDrawn Text p text = text ≡ timeline_text p
 IsDrawn Trace p text = IsTrace p text
-
--- the text is a drawing of some picture with this property
-abbrev pub IsDrawingOf : Drawing → (Picture → Type 0) → List ℕ → Type 0
-IsDrawingOf drawing is text = (p : Picture) × is p × IsDrawn drawing p text
-
--- the text draws the ticks that are asked for, as far as a run that ends at this tick has them. The drawn picture is
--- one of the window of those ticks
-abbrev pub DrawsShown : Drawing → (Window → Picture → Type 0) → Window → ℕ → List ℕ → Type 0
-DrawsShown drawing is asked end text = (w : Window) × AnswersShown asked end (Ok w) × IsDrawingOf drawing (is w) text
-
--- the text draws the ticks of the load that are asked for, and names the file so
-abbrev pub IsLoadDrawing : Drawing → Window → List ℕ → LoadFile → List ℕ → Type 0
-IsLoadDrawing drawing asked name f text = DrawsShown drawing (IsPictureOf name (run_of f)) asked f.until text
-
--- the same for a task file
-abbrev pub IsTaskDrawing : Drawing → Window → List ℕ → File → List ℕ → Type 0
-IsTaskDrawing drawing asked name f text = DrawsShown drawing (IsPictureOf name (run_of_tasks f)) asked (clock_of_tasks f) text
-
--- the tick at which a load's run ends
-abbrev pub end_of : LoadFile → ℕ
-end_of f = f.until
-
--- a command that draws the ticks of each file that are asked for, as far as the run of the file has them
-abbrev pub drawing_command : {F : Type 0} → (List ℕ → Result F FileFault) → (F → List ℕ → Type 0) → (F → ℕ) → Window → Command F
-drawing_command read is ends asked =
-    record { read = read; prints = is; short = λ f. IsUntouched; nothing = λ f e. AnswersShown asked (ends f) (Err e) }
-
--- the command that draws a load, and the one that draws a task file
-abbrev pub load_drawing : Changes → Drawing → Window → List ℕ → Command LoadFile
-load_drawing changes drawing asked name = drawing_command (changed_load changes) (IsLoadDrawing drawing asked name) end_of asked
-
-abbrev pub task_drawing : Drawing → Window → List ℕ → Command File
-task_drawing drawing asked name = drawing_command file (IsTaskDrawing drawing asked name) clock_of_tasks asked

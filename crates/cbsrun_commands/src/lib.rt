@@ -3,6 +3,7 @@
 #![tactic(auto)]
 
 mod check;
+mod drawn;
 mod ending;
 mod environment;
 mod fault_lines;
@@ -15,12 +16,13 @@ mod report;
 mod result_lines;
 mod run;
 mod serve;
+mod servers;
 mod size;
 mod sweeps;
 
 pub use cbsrun_command_line::{
-    Action, Asked, Changes, Drawing, Form, LoadReport, LoadSweep, Seeds, SweepForm, Verb, Window,
-    WordsFault, read_words,
+    Action, Asked, Changes, Drawing, Form, LoadReport, LoadSweep, RunDrawing, Seeds, SweepForm,
+    Verb, Window, WordsFault, read_words,
 };
 pub use cbsrun_io::{
     ByteInput, ByteOutput, FromRead, MAX_BYTES, ReadError, ToWrite, read_all, write_pieces,

@@ -1,16 +1,18 @@
 //! Pictures of loads and task files: from their bytes to a status.
 
-ghost use Rattle.std.specs.Prelude.{◌≤◌, IfOk, length, string_bytes};
-ghost use Rattle.cbsrun_commands.specs.Commands.{Does, EndsAs};
-ghost use Rattle.cbsrun_commands.specs.Outputs.{load_drawing, task_drawing, IsDrawingOf, IsDrawn};
+ghost use Rattle.std.specs.Prelude.{◌≤◌, IfOk, length, map, string_bytes};
+ghost use Rattle.cbsrun_command_line.specs.Fits.{Fits};
+ghost use Rattle.cbsrun_commands.specs.Drawings.{Draws, EndsDrawing, IsDrawingOfThose, PrintsDrawing, load_drawer, task_drawer};
 ghost use Rattle.cbsrun_commands.specs.FaultLines.{Prints};
-ghost use Rattle.cbsrun_runs.specs.Runs.{IsPictureOf};
+ghost use Rattle.cbsrun_commands.specs.Outputs.{IsDrawn};
 ghost use Rattle.cbsrun_lines.specs.Writers.{MayWrite};
 
-use crate::ending::{Stopped, print, status_of};
+use crate::drawn::{Drawn, cut_of, status_of_drawing};
+use crate::ending::{Stopped, print};
 use crate::reading::{load_file, task_file};
+use crate::servers::no_server;
 use cbsrun_chart::{Picture, Window};
-use cbsrun_command_line::{Changes, Drawing};
+use cbsrun_command_line::{Changes, Drawing, RunDrawing};
 use cbsrun_io::ByteOutput;
 use cbsrun_lines::RunError;
 use cbsrun_perfetto::trace_json;
@@ -21,7 +23,8 @@ use std::alloc::{AllocError, Global};
 
 /// Returns the text of a picture of at most 64 servers, in this drawing.
 fn drawn_text(alloc: Global, drawing: Drawing, picture: &Picture) -> Result<String, AllocError>
-    requires { length picture.now.servers.items ≤ 64 }
+    requires few { length picture.now.servers.items ≤ 64 }
+    requires fits { Fits drawing picture.now.window }
     ensures { IfOk result (λ text. IsDrawn drawing picture.now (string_bytes text)) }
 {
     match drawing {
@@ -31,85 +34,122 @@ fn drawn_text(alloc: Global, drawing: Drawing, picture: &Picture) -> Result<Stri
     }
 }
 
-/// Makes the steps of a run, and prints the picture of a window of it, in this drawing. The picture names the file `name`.
+/// Makes the steps of a run, and prints the picture of a window of it, in this drawing. The picture names the file `name`,
+/// and draws the servers with these names, or all of them if there is no name.
 fn print_picture<R: Run, P: Progress, O: ByteOutput>(
     alloc: Global,
     drawing: Drawing,
     window: Window,
+    servers: &[String],
     name: &str,
     run: &mut R,
     progress: &mut P,
     out: &mut O,
 ) -> Result<(), RunError>
-    requires { MayWrite (O.state out.old) }
-    ensures { Prints (IsDrawingOf drawing (IsPictureOf name.now (R.run run.old) window)) result
+    requires may { MayWrite (O.state out.old) }
+    requires fits { Fits drawing window }
+    ensures { Prints (IsDrawingOfThose drawing (map string_bytes servers.now) name.now
+        (R.run run.old) window) result
         (O.state out.old) (O.state out.new) }
 {
-    let picture = picture_of(alloc, name, run, window, progress)?;
+    let picture = picture_of(alloc, name, run, window, progress)?.chosen(servers);
     let text = drawn_text(alloc, drawing, &picture)?;
     print(&text, out)
 }
 
-/// Draws the ticks of a window of the load that the bytes spell, with these changes.
+/// Makes the steps of a run, which ends at the tick `end`, and prints the drawing of it that is asked for. The drawing names
+/// the file `name`, and has the servers with these names, or all of them if there is no name.
+fn print_drawing<R: Run, P: Progress, O: ByteOutput>(
+    alloc: Global,
+    asked: RunDrawing,
+    end: u64,
+    servers: &[String],
+    name: &str,
+    run: &mut R,
+    progress: &mut P,
+    out: &mut O,
+) -> Result<Drawn, Stopped>
+    requires { MayWrite (O.state out.old) }
+    ensures { PrintsDrawing asked (map string_bytes servers.now) name.now (R.run run.old) end result
+        (O.state out.old) (O.state out.new) }
+{
+    if let Some(told) = no_server(alloc, run, servers)? {
+        return Ok(Drawn::NoServer(told));
+    }
+    let window = shown_of(asked.ticks, end)?;
+    print_picture(
+        alloc,
+        asked.drawing,
+        window,
+        servers,
+        name,
+        run,
+        progress,
+        out,
+    )?;
+    Ok(Drawn::Printed(cut_of(asked, end)))
+}
+
+/// Draws what is asked for of the load that the bytes spell, with these changes.
 fn draw_load<P: Progress, O: ByteOutput>(
     alloc: Global,
     memory: u64,
-    drawing: Drawing,
-    asked: Window,
+    asked: RunDrawing,
+    servers: &[String],
     changes: Changes,
     name: &str,
     bytes: &[u8],
     progress: &mut P,
     out: &mut O,
-) -> Result<(), Stopped>
+) -> Result<Drawn, Stopped>
     requires { MayWrite (O.state out.old) }
-    ensures { Does (load_drawing changes drawing asked name.now) bytes.now result (O.state out.old)
-        (O.state out.new) }
+    ensures { Draws (load_drawer changes asked (map string_bytes servers.now) name.now) bytes.now
+        result (O.state out.old) (O.state out.new) }
 {
     let mut load = load_file(alloc, memory, changes, bytes)?;
-    let window = shown_of(asked, load.until())?;
-    print_picture(alloc, drawing, window, name, &mut load, progress, out)?;
-    Ok(())
+    let end = load.until();
+    print_drawing(alloc, asked, end, servers, name, &mut load, progress, out)
 }
 
-/// Draws the ticks of a window of the task file that the bytes spell. The file is read twice, and its steps are made
-/// twice: the first time only for the tick at which they end.
+/// Draws what is asked for of the task file that the bytes spell. The file is read twice, and its steps are made twice: the
+/// first time only for the tick at which they end.
 fn draw_tasks<O: ByteOutput>(
     alloc: Global,
     memory: u64,
-    drawing: Drawing,
-    asked: Window,
+    asked: RunDrawing,
+    servers: &[String],
     name: &str,
     bytes: &[u8],
     out: &mut O,
-) -> Result<(), Stopped>
+) -> Result<Drawn, Stopped>
     requires { MayWrite (O.state out.old) }
-    ensures { Does (task_drawing drawing asked name.now) bytes.now result (O.state out.old)
-        (O.state out.new) }
+    ensures { Draws (task_drawer asked (map string_bytes servers.now) name.now) bytes.now
+        result (O.state out.old) (O.state out.new) }
 {
     let first = task_file(alloc, memory, bytes)?;
     let end = clock_of(alloc, first)?;
-    let window = shown_of(asked, end)?;
     let tasks = task_file(alloc, memory, bytes)?;
     let mut replay = Replay::of(tasks);
-    print_picture(
+    print_drawing(
         alloc,
-        drawing,
-        window,
+        asked,
+        end,
+        servers,
         name,
         &mut replay,
         &mut NoProgress,
         out,
-    )?;
-    Ok(())
+    )
 }
 
 /// Simulates the load that the bytes spell, with these changes. Draws the ticks that are asked for, as far as the run has
-/// them. The drawing names the file `name`. Reports to `progress` now and then how far the simulation is. Returns the status.
+/// them, and the servers with these names, or all of them if there is no name. The drawing names the file `name`. Reports
+/// to `progress` now and then how far the simulation is. Returns the status.
 ///
-/// At status 0 the whole drawing is on `out`, or a prefix of it if a write found a closed pipe, and nothing on `err`. At
-/// status 2 the load ends at or before the first tick that is asked for. A line on `err` names that tick and the end,
-/// and nothing is on `out`. At status 3 the file has a fault: the line of the fault goes to `err`, with an explanation
+/// At status 0 the whole drawing is on `out`, or a prefix of it if a write found a closed pipe. If the drawing leaves out
+/// ticks since it can show no more of them, a line on `err` says which, and else nothing is on `err`. At status 2 the load
+/// ends at or before the first tick that is asked for, or it has no server of some name. A line on `err` names that tick
+/// and the end, or that name, and nothing is on `out`. At status 3 the file has a fault: the line of the fault goes to `err`, with an explanation
 /// below it, and nothing to `out`. At status 4 the run ended early: the line of the run fault goes to `err`, and `out`
 /// has a prefix of the drawing. That prefix is empty unless a write failed. A line that cannot be written changes no
 /// status.
@@ -119,8 +159,8 @@ fn draw_tasks<O: ByteOutput>(
 pub fn draw_load_within<P: Progress, O: ByteOutput, E: ByteOutput>(
     alloc: Global,
     memory: u64,
-    drawing: Drawing,
-    asked: Window,
+    asked: RunDrawing,
+    servers: &[String],
     changes: Changes,
     name: &str,
     bytes: &[u8],
@@ -130,26 +170,27 @@ pub fn draw_load_within<P: Progress, O: ByteOutput, E: ByteOutput>(
 ) -> u8
     requires out { MayWrite (O.state out.old) }
     requires err { MayWrite (E.state err.old) }
-    ensures { EndsAs (load_drawing changes drawing asked name.now) name.now bytes.now
-        (O.closed out.new)
+    ensures { EndsDrawing (load_drawer changes asked (map string_bytes servers.now) name.now)
+        bytes.now (O.closed out.new)
         (O.state out.old) (O.state out.new) (E.state err.old) (E.state err.new) result }
 {
     let ended = draw_load(
-        alloc, memory, drawing, asked, changes, name, bytes, progress, out,
+        alloc, memory, asked, servers, changes, name, bytes, progress, out,
     );
-    status_of(alloc, memory, name, bytes, ended, out.is_closed(), err)
+    status_of_drawing(alloc, memory, name, bytes, ended, out.is_closed(), err)
 }
 
 /// Makes the steps of the task file that the bytes spell. Draws the ticks that are asked for, as far as the run has
-/// them. The drawing names the file `name`. Returns the status.
+/// them, and the servers with these names, or all of them if there is no name. The drawing names the file `name`. Returns
+/// the status.
 ///
 /// The statuses are those of [`draw_load_within`]. The run of a task file ends at the tick to which its steps bring the
 /// clock.
 pub fn draw_tasks_within<O: ByteOutput, E: ByteOutput>(
     alloc: Global,
     memory: u64,
-    drawing: Drawing,
-    asked: Window,
+    asked: RunDrawing,
+    servers: &[String],
     name: &str,
     bytes: &[u8],
     out: &mut O,
@@ -157,9 +198,10 @@ pub fn draw_tasks_within<O: ByteOutput, E: ByteOutput>(
 ) -> u8
     requires out { MayWrite (O.state out.old) }
     requires err { MayWrite (E.state err.old) }
-    ensures { EndsAs (task_drawing drawing asked name.now) name.now bytes.now (O.closed out.new)
+    ensures { EndsDrawing (task_drawer asked (map string_bytes servers.now) name.now)
+        bytes.now (O.closed out.new)
         (O.state out.old) (O.state out.new) (E.state err.old) (E.state err.new) result }
 {
-    let ended = draw_tasks(alloc, memory, drawing, asked, name, bytes, out);
-    status_of(alloc, memory, name, bytes, ended, out.is_closed(), err)
+    let ended = draw_tasks(alloc, memory, asked, servers, name, bytes, out);
+    status_of_drawing(alloc, memory, name, bytes, ended, out.is_closed(), err)
 }

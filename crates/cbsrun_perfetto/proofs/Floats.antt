@@ -6,8 +6,9 @@ use Rattle.serde_json.specs.Data.{Data}
 use Rattle.serde_json.specs.Written.{compact_text, has_float}
 use Rattle.cbsrun_json.proofs.Plain.{long_if_plain, whole_if_plain}
 use Rattle.cbsrun_chart.specs.declared.hidden.Hidden.{Hidden}
+use Rattle.cbsrun_chart.specs.declared.hidden.LeftOut.{LeftOut}
 use Rattle.cbsrun_chart.specs.declared.jobs.ChartJob.{ChartJob}
-use Rattle.cbsrun_perfetto.specs.Events.{LineSeen, about_data, budget_args, budget_data, hidden_args, hidden_data, instant_data, job_args, line_of, on_thread, slice_data}
+use Rattle.cbsrun_perfetto.specs.Events.{LineSeen, about_data, budget_args, budget_data, hidden_args, hidden_data, instant_data, job_args, left_out_args, left_out_data, line_of, on_thread, slice_data}
 
 -- what is told of a job has no fraction
 pub job_plain : (j : ℕ) (job : Option ChartJob) → has_float (job_args j job) ≡ false
@@ -34,6 +35,11 @@ budget_plain name thread tick budget = refl
 pub hidden_plain : (tick : ℕ) (h : Hidden) → has_float (hidden_data tick h) ≡ false
 unfolding hidden_data hidden_args on_thread
 hidden_plain tick h = refl
+
+-- servers that are not drawn have none
+pub left_out_plain : (tick : ℕ) (o : LeftOut) → has_float (left_out_data tick o) ≡ false
+unfolding left_out_data left_out_args on_thread
+left_out_plain tick o = refl
 
 -- a name has one only if what is told of it has one
 pub about_plain : (what : List ℕ) (thread : ℕ) (args : Data) → has_float args ≡ false → has_float (about_data what thread args) ≡ false

@@ -3,8 +3,9 @@ use Rattle.std.specs.Prelude.{ℕ, ◌-◌, List, [], ◌∷◌, ◌++◌, codes
 use Rattle.std.specs.Borrow.{Bor}
 use Rattle.serde_json.specs.Data.{Data, string, object, Members, no_members, put}
 use Rattle.serde_json.specs.Written.{compact_text}
-use Rattle.cbsrun_chart.specs.Hidden.{hidden_text}
+use Rattle.cbsrun_chart.specs.Hidden.{hidden_text, left_out_text}
 use Rattle.cbsrun_chart.specs.declared.hidden.Hidden.{Hidden}
+use Rattle.cbsrun_chart.specs.declared.hidden.LeftOut.{LeftOut}
 use Rattle.cbsrun_chart.specs.declared.jobs.ChartJob.{ChartJob}
 use Rattle.cbsrun_json.specs.Members.{long_if, member_of, object_of, scalar_data, whole, whole_if, with_members}
 use Rattle.cbsrun_json.specs.declared.scalar.Scalar.{Scalar}
@@ -54,6 +55,18 @@ hidden_data tick h =
     (codes "s", string (codes "p"))
     ∷ (codes "args", hidden_args h)
     ∷ []) (on_thread (codes "i") (hidden_text h) (codes "hidden") 1 tick))
+
+-- the arguments of servers that are not drawn: how many they are
+unfoldable pub left_out_args : LeftOut → Data
+left_out_args o = object_of ((codes "servers", whole o.servers) ∷ [])
+
+-- the event of servers that are not drawn. It stands at the first tick that is shown, and is of the whole process
+unfoldable pub left_out_data : ℕ → LeftOut → Data
+left_out_data tick o =
+    object (with_members (
+    (codes "s", string (codes "p"))
+    ∷ (codes "args", left_out_args o)
+    ∷ []) (on_thread (codes "i") (left_out_text o) (codes "hidden") 1 tick))
 
 -- the arguments that give a budget
 unfoldable pub budget_args : ℕ → Data

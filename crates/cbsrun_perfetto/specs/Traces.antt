@@ -4,8 +4,9 @@ use Rattle.std.specs.Prelude.{None, ◌≡◌}
 use Rattle.std.specs.List.{range_with_len}
 use Rattle.cbsrun_chart.specs.declared.chart.ServerChart.{ServerChart}
 use Rattle.cbsrun_chart.specs.declared.course.Corner.{Corner}
-use Rattle.cbsrun_chart.specs.Hidden.{hidden_of}
+use Rattle.cbsrun_chart.specs.Hidden.{hidden_of, left_out_of}
 use Rattle.cbsrun_chart.specs.declared.hidden.Hidden.{Hidden}
+use Rattle.cbsrun_chart.specs.declared.hidden.LeftOut.{LeftOut}
 use Rattle.cbsrun_chart.specs.Jobs.{job_numbered}
 use Rattle.cbsrun_chart.specs.declared.jobs.ChartJob.{ChartJob}
 use Rattle.cbsrun_chart.specs.declared.picture.Drawn.{Drawn}
@@ -14,7 +15,7 @@ use Rattle.cbsrun_window.specs.declared.stretch.Kind.TheVariants as kind
 use Rattle.cbsrun_window.specs.declared.stretch.Stretch.{Stretch}
 use Rattle.cbsrun_window.specs.Windows.{ends_tick, has_tick}
 use Rattle.cbsrun_window.specs.declared.window.Window.{Window}
-use Rattle.cbsrun_perfetto.specs.Events.{LineSeen, budget_data, came_args, finished_args, hidden_data, instant_data, job_args, line_of, no_args, slice_data, about_data}
+use Rattle.cbsrun_perfetto.specs.Events.{LineSeen, budget_data, came_args, finished_args, hidden_data, instant_data, job_args, left_out_data, line_of, no_args, slice_data, about_data}
 use Rattle.cbsrun_perfetto.specs.Events.{named_args, placed_args}
 use Rattle.std.specs.Ordering.{nat_cmp}
 use Rattle.std.specs.List.Sorted.{IsPermutation, IsSortedByKey, IsStableByKey}
@@ -133,7 +134,7 @@ abbrev pub numbered : {X : Type 0} → (ℕ → Drawn → List X) → ℕ → Li
 numbered f n [] = []
 numbered f n (d ∷ ds) = f n d ++ numbered f (n + 1) ds
 
--- the events of all servers: server s is thread s + 1
+-- the events of all servers that are drawn: the first is thread 1, the next one thread 2, and so on
 unfoldable pub all_events : Window → List Drawn → List LineSeen
 all_events w servers = numbered (events_of w) 1 servers
 
@@ -170,6 +171,11 @@ abbrev pub hidden_line : ℕ → Option Hidden → List ℕ
 hidden_line tick None = []
 hidden_line tick (Some h) = next_text (compact_text (hidden_data tick h))
 
+-- how many servers are not drawn, if there are any
+abbrev pub left_out_line : ℕ → Option LeftOut → List ℕ
+left_out_line tick None = []
+left_out_line tick (Some o) = next_text (compact_text (left_out_data tick o))
+
 -- all events, each on a line of its own
 unfoldable pub lines_text : List LineSeen → List ℕ
 lines_text lines = flat_map (λ line. next_text line.text) lines
@@ -190,7 +196,7 @@ opening_text file = opening ++ process_text file
 unfoldable pub trace_text : Picture → List LineSeen → List ℕ
 trace_text p ordered =
     opening_text (string_bytes p.file) ++ servers_text p.servers.items ++ hidden_line p.window.from (hidden_of p.window p.end)
-    ++ lines_text ordered ++ codes "\n]}\n"
+    ++ left_out_line p.window.from (left_out_of p.others) ++ lines_text ordered ++ codes "\n]}\n"
 
 -- the text is the trace of the picture: exactly the events of its servers, in order
 pub record IsTrace (p : Picture) (text : List ℕ) : Type 0 where

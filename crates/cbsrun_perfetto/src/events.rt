@@ -5,11 +5,11 @@ ghost use Rattle.serde_json.specs.Data.{no_members};
 ghost use Rattle.serde_json.specs.View.{view};
 ghost use Rattle.serde_json.specs.Written.{compact_text, has_float};
 ghost use Rattle.cbsrun_json.specs.Members.{member_of, scalar_data, with_members};
-ghost use Rattle.cbsrun_perfetto.specs.Events.{about_data, came_args, event_data, finished_args, hidden_args, hidden_data, instant_data, job_args, line_of, named_args, no_args, on_thread, placed_args, slice_data};
+ghost use Rattle.cbsrun_perfetto.specs.Events.{about_data, came_args, event_data, finished_args, hidden_args, hidden_data, instant_data, job_args, left_out_args, left_out_data, line_of, named_args, no_args, on_thread, placed_args, slice_data};
 ghost use Rattle.cbsrun_perfetto.specs.Traces.{budget_line};
 
 use crate::line::Line;
-use cbsrun_chart::{ChartJob, Hidden, Stretch};
+use cbsrun_chart::{ChartJob, Hidden, LeftOut, Stretch};
 use cbsrun_json::{Scalar, object_of, put_all};
 use serde_json::{Map, Value, put};
 use std::alloc::{AllocError, Global};
@@ -187,6 +187,30 @@ pub(crate) fn hidden_text(alloc: Global, tick: u64, hidden: Hidden) -> Result<St
 {
     let name = hidden.to_string(alloc)?;
     let args = hidden_args(alloc, hidden)?;
+    let place = on_thread("i", &name, "hidden", 1, tick);
+    event_text(alloc, &place, &[("s", Scalar::Text("p"))], args)
+}
+
+/// Returns the arguments of servers that are not drawn: how many they are.
+#[tactic(auto, unfolding(crate::specs::Events::left_out_args))]
+fn left_out_args(alloc: Global, left_out: LeftOut) -> Result<Value, AllocError>
+    ensures value { IfOk result (λ v. view v ≡ left_out_args left_out) }
+    ensures plain { IfOk result (λ v. has_float (view v) ≡ false) }
+{
+    object_of(alloc, &[("servers", Scalar::Whole(left_out.servers))])
+}
+
+/// Returns the event of servers that are not drawn, as text. It stands at the first tick that is shown, `tick`, and is of
+/// the whole process.
+pub(crate) fn left_out_text(
+    alloc: Global,
+    tick: u64,
+    left_out: LeftOut,
+) -> Result<String, AllocError>
+    ensures { IfOk result (λ text. string_bytes text ≡ compact_text (left_out_data tick left_out)) }
+{
+    let name = left_out.to_string(alloc)?;
+    let args = left_out_args(alloc, left_out)?;
     let place = on_thread("i", &name, "hidden", 1, tick);
     event_text(alloc, &place, &[("s", Scalar::Text("p"))], args)
 }

@@ -1,12 +1,12 @@
 //! The whole trace.
 
 ghost use Rattle.std.specs.Prelude.{◌≡◌, ◌++◌, IfOk, OnOk, string_bytes};
-ghost use Rattle.cbsrun_perfetto.specs.Traces.{AreInOrder, IsTrace, all_events, hidden_line, lines_text, opening_text, process_text, servers_text, trace_text};
+ghost use Rattle.cbsrun_perfetto.specs.Traces.{AreInOrder, IsTrace, all_events, hidden_line, left_out_line, lines_text, opening_text, process_text, servers_text, trace_text};
 
-use crate::events::{about_text, hidden_text, named_args};
+use crate::events::{about_text, hidden_text, left_out_text, named_args};
 use crate::line::{Line, sort_lines};
 use crate::server::{append_events, append_next, append_server};
-use cbsrun_chart::{Drawn, Hidden, Picture, Window};
+use cbsrun_chart::{Drawn, Hidden, LeftOut, Picture, Window};
 use std::alloc::{AllocError, Global};
 
 /// The text before the events.
@@ -93,6 +93,23 @@ fn append_hidden(
     append_next(text, &event)
 }
 
+/// Appends how many servers are not drawn, if there are any. The first tick that is shown is `tick`.
+fn append_left_out(
+    alloc: Global,
+    text: &mut String,
+    tick: u64,
+    left_out: Option<LeftOut>,
+) -> Result<(), AllocError>
+    ensures { OnOk result (string_bytes text.new ≡ string_bytes text.old
+        ++ left_out_line tick left_out) }
+{
+    let Some(left_out) = left_out else {
+        return Ok(());
+    };
+    let event = left_out_text(alloc, tick, left_out)?;
+    append_next(text, &event)
+}
+
 /// Returns a trace with these events, in this order.
 #[tactic(auto, unfolding(crate::specs::Traces::trace_text))]
 fn trace_text(alloc: Global, picture: &Picture, lines: &[Line]) -> Result<String, AllocError>
@@ -102,6 +119,7 @@ fn trace_text(alloc: Global, picture: &Picture, lines: &[Line]) -> Result<String
     append_opening(alloc, &mut text, &picture.file)?;
     append_servers(alloc, &mut text, &picture.servers)?;
     append_hidden(alloc, &mut text, picture.window.from, picture.hidden())?;
+    append_left_out(alloc, &mut text, picture.window.from, picture.left_out())?;
     append_lines(&mut text, lines)?;
     text.push_str("\n]}\n")?;
     Ok(text)

@@ -71,15 +71,17 @@ pub record IsReportOf (name : List ℕ) (r : Shown) (report : RunReport) : Type 
   pub count : length report.servers.items ≡ length r.plan.rates
   pub each : (s : ℕ) (server : ServerReport) → slice_get report.servers.items s ≡ Some server → IsServerReport r s server
 
--- a picture of a chart of a run, which names the file so. It has the chart's window, end and idle ticks. Each server has
--- its name, its mode and its reservation, and the picture shows of it what the chart shows
+-- a picture of a chart of a run, which names the file so. It has the chart's window, end and idle ticks, and draws each
+-- server of the run: it has its name, its mode and its reservation, and the picture shows of it what the chart shows
 pub record IsChartPicture (name : List ℕ) (r : Shown) (c : Chart) (p : Picture) : Type 0 where
   pub file : string_bytes p.file ≡ name
   pub reserved : p.reserved
       ≡ record { ticks = sum_by (share (common_multiple r.plan.rates)) r.plan.rates; of = common_multiple r.plan.rates }
   pub window : p.window ≡ c.window
   pub end : p.end ≡ c.end
+  pub tick : p.tick ≡ r.tick
   pub idle : p.idle ≡ c.idle
+  pub others : p.others ≡ 0
   pub names : map (λ d. string_bytes d.name) p.servers.items ≡ r.names
   pub modes : map (λ d. d.mode) p.servers.items ≡ r.modes
   pub reservations : map (λ d. d.reservation) p.servers.items ≡ r.plan.rates

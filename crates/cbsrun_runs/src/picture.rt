@@ -85,8 +85,10 @@ fn picture_of_chart<R: Run>(
         reserved: run.plan().bandwidth(),
         window,
         end,
+        tick: run.tick(),
         idle,
         servers,
+        others: 0,
     })
 }
 

@@ -8,8 +8,9 @@ use Rattle.cbsrun_window.specs.declared.window.Window.{Window}
 use Rattle.cbsrun_svg_shapes.specs.Axes.{AxisSeen, right_of, x_at}
 use Rattle.cbsrun_svg_shapes.specs.Shapes.{label_text, upright_text}
 use Rattle.cbsrun_text.specs.Numbers.{digits_of, mode_word}
-use Rattle.cbsrun_chart.specs.Hidden.{hidden_of, hidden_text}
+use Rattle.cbsrun_chart.specs.Hidden.{hidden_of, hidden_text, left_out_of, left_out_text}
 use Rattle.cbsrun_chart.specs.declared.hidden.Hidden.{Hidden}
+use Rattle.cbsrun_chart.specs.declared.hidden.LeftOut.{LeftOut}
 use Rattle.cbsrun_chart.specs.declared.jobs.ChartJob.{ChartJob}
 use Rattle.cbsrun_chart.specs.declared.picture.Drawn.{Drawn}
 use Rattle.cbsrun_chart.specs.declared.picture.Picture.{Picture}
@@ -115,6 +116,11 @@ abbrev pub hidden_part : Option Hidden → List ℕ
 hidden_part None = []
 hidden_part (Some h) = codes " " ++ hidden_text h
 
+-- how many servers are not drawn, if there are any
+abbrev pub left_out_part : Option LeftOut → List ℕ
+left_out_part None = []
+left_out_part (Some o) = codes " " ++ left_out_text o
+
 -- how many ticks a column has, if it has more than one
 unfoldable pub column_text : ℕ → List ℕ
 column_text cell = if ltb 1 cell then codes " Each column is " ++ decimal cell ++ codes " ticks." else []
@@ -124,7 +130,7 @@ unfoldable pub summary_text : Picture → ℕ → List ℕ
 summary_text p cell =
     figures_text (length p.servers.items) p.reserved (all_units p.window p.servers.items) (all_charged p.window p.servers.items)
     (counts_of p.window.from p.window.to p.idle.items).idle
-    ++ hidden_part (hidden_of p.window p.end) ++ column_text cell
+    ++ hidden_part (hidden_of p.window p.end) ++ left_out_part (left_out_of p.others) ++ column_text cell
 
 -- the job was finished late in the window
 abbrev pub is_late_at : Window → ChartJob → Option ℕ → Bool

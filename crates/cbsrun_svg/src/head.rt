@@ -1,11 +1,11 @@
 //! The words of a picture that stand around its rows.
 
 ghost use Rattle.std.specs.Prelude.{◌≡◌, ◌+◌, ◌≤◌, ◌++◌, IfOk, OnOk, count_by, string_bytes};
-ghost use Rattle.cbsrun_svg.specs.Heads.{all_charged, all_units, came_text, charges_text, column_text, figures_text, heading_text, hidden_part, is_late, sentence_text, servers_text, summary_text, tenths_of, was_charged_text, who_text};
+ghost use Rattle.cbsrun_svg.specs.Heads.{all_charged, all_units, came_text, charges_text, column_text, figures_text, heading_text, hidden_part, is_late, left_out_part, sentence_text, servers_text, summary_text, tenths_of, was_charged_text, who_text};
 
 use crate::row::{charged_of, terms_text, units_of};
 use cbs_rate::Bandwidth;
-use cbsrun_chart::{ChartJob, Counts, Drawn, Hidden, Picture, Window};
+use cbsrun_chart::{ChartJob, Counts, Drawn, Hidden, LeftOut, Picture, Window};
 use cbsrun_figures::exceeds;
 use cbsrun_text::mode_word;
 use std::alloc::{AllocError, Global};
@@ -109,6 +109,17 @@ fn append_hidden(text: &mut String, hidden: Option<Hidden>) -> Result<(), AllocE
     }
 }
 
+/// Appends how many servers are not drawn, if there are any.
+fn append_left_out(text: &mut String, left_out: Option<LeftOut>) -> Result<(), AllocError>
+    ensures { OnOk result (string_bytes text.new ≡ string_bytes text.old
+        ++ left_out_part left_out) }
+{
+    match left_out {
+        Some(left_out) => write!(text, " {left_out}"),
+        None => Ok(()),
+    }
+}
+
 /// Appends how many ticks a column has, if it has more than one.
 #[tactic(auto, unfolding(crate::specs::Heads::column_text))]
 fn append_column(text: &mut String, cell: u64) -> Result<(), AllocError>
@@ -143,6 +154,7 @@ pub(crate) fn summary_text(
         idle,
     )?;
     append_hidden(&mut text, picture.hidden())?;
+    append_left_out(&mut text, picture.left_out())?;
     append_column(&mut text, cell)?;
     Ok(text)
 }

@@ -4,6 +4,7 @@ ghost use Rattle.std.specs.Prelude.{◌≡◌, ◌≤◌, ◌++◌, IfOk, OnOk, 
 ghost use Rattle.cbsrun_svg.specs.Heads.{heading_text, summary_text};
 ghost use Rattle.cbsrun_svg.specs.Pictures.{body_text, budget_legend, charged_legend, description_text, drawn_text, fine_legend, grid_text, idle_boxes, idle_shape, idle_text, left_of, legend_text, opening_text, page_text, rows_text, scale_of, sentences_text, server_row, server_sentence, svg_text, title_text, top_text, units_heading, words_text, words_width};
 ghost use Rattle.cbsrun_svg_shapes.specs.Shapes.{escaped};
+ghost use Rattle.cbsrun_window.specs.Windows.{IsShort};
 
 use crate::head::{all_charged, append_sentence, heading_text, summary_text};
 use crate::row::{append_layer, append_row, short_terms_text, terms_text};
@@ -439,9 +440,10 @@ fn drawn_text(
     Ok(text)
 }
 
-/// Returns a picture as the text of an SVG document. The only error is out of memory.
+/// Returns a picture of a short window as the text of an SVG document. The only error is out of memory.
 pub fn svg_text(alloc: Global, picture: &Picture) -> Result<String, AllocError>
     requires few { length picture.now.servers.items ≤ 64 }
+    requires short { IsShort picture.now.window }
     ensures { IfOk result (λ text. string_bytes text ≡ svg_text picture.now) }
 {
     let axis = Axis::of(picture.window, left_of(alloc, &picture.servers)?);

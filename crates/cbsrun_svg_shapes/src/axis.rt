@@ -2,6 +2,7 @@
 
 ghost use Rattle.std.specs.Prelude.{◌≡◌, ◌+◌, ◌≤◌, ◌<◌};
 ghost use Rattle.cbsrun_window.specs.Counts.{told};
+ghost use Rattle.cbsrun_window.specs.Windows.{IsShort};
 ghost use Rattle.cbsrun_svg_shapes.specs.Axes.{axis_of, cell_of, cells_of, is_wide, right_of, tick_of_cell, x_at, x_of_cell};
 
 use cbsrun_chart::Window;
@@ -51,9 +52,10 @@ fn cells_of(ticks: u64) -> u64
 }
 
 impl Axis {
-    /// Returns the axis of a window, with its left edge at `left`.
+    /// Returns the axis of a short window, with its left edge at `left`.
     pub fn of(window: Window, left: u64) -> Axis
-        requires { left ≤ 100000 }
+        requires short { IsShort window }
+        requires left { left ≤ 100000 }
         ensures { result ≡ axis_of window left }
     {
         let ticks = window.ticks();

@@ -4,8 +4,9 @@ use Rattle.std.specs.Prelude.{ltb, Bool, Option, Some, None}
 use Rattle.std.specs.List.{range_with_len, list_any}
 use Rattle.std.specs.Str.{trim_end}
 use Rattle.cbsrun_chart.specs.declared.chart.ServerChart.{ServerChart}
-use Rattle.cbsrun_chart.specs.Hidden.{hidden_of, hidden_text}
+use Rattle.cbsrun_chart.specs.Hidden.{hidden_of, hidden_text, left_out_of, left_out_text}
 use Rattle.cbsrun_chart.specs.declared.hidden.Hidden.{Hidden}
+use Rattle.cbsrun_chart.specs.declared.hidden.LeftOut.{LeftOut}
 use Rattle.cbsrun_chart.specs.declared.picture.Drawn.{Drawn}
 use Rattle.cbsrun_timeline.specs.Signs.{GridSeen, tick_of, blocks_of, count_of, first_of, grid_of, is_fine, blank, column_mark, column_sign}
 use Rattle.cbsrun_window.specs.Counts.{counts_of}
@@ -81,6 +82,11 @@ unfoldable pub hidden_line : Option Hidden → List ℕ
 hidden_line None = []
 hidden_line (Some h) = hidden_text h ++ codes "\n"
 
+-- the line of how many servers are not drawn, if there are any
+unfoldable pub left_out_line : Option LeftOut → List ℕ
+left_out_line None = []
+left_out_line (Some o) = left_out_text o ++ codes "\n"
+
 -- the lines of all servers in a block
 unfoldable pub servers_text : GridSeen → ℕ → ℕ → List Drawn → List ℕ
 servers_text g first count servers = flat_map (server_text g first count) servers
@@ -108,8 +114,8 @@ legend_text g w servers = codes "\n" ++ (if is_fine g then LEGEND.now else COLUM
 -- a timeline on a grid
 unfoldable pub drawn_text : GridSeen → Picture → List ℕ
 drawn_text g p =
-    heading_text g (string_bytes p.file) ++ hidden_line (hidden_of p.window p.end) ++ blocks_text g p.servers.items
-    ++ legend_text g p.window p.servers.items
+    heading_text g (string_bytes p.file) ++ hidden_line (hidden_of p.window p.end) ++ left_out_line (left_out_of p.others)
+    ++ blocks_text g p.servers.items ++ legend_text g p.window p.servers.items
 
 -- the timeline of a picture
 abbrev pub timeline_text : Picture → List ℕ

@@ -2,6 +2,7 @@
 
 ghost use Rattle.std.specs.Prelude.{◌≡◌, ◌+◌, ◌-◌, ◌≤◌, ◌<◌, IfOk};
 ghost use Rattle.cbsrun_timeline.specs.Signs.{blocks_of, cell_of, columns_of, count_of, end_of, first_of, grid_of, is_fine, plot_of, step_of, tick_of, width_of};
+ghost use Rattle.cbsrun_window.specs.Windows.{IsShort};
 
 use cbsrun_chart::{Drawn, Picture};
 use cbsrun_text::digits_of;
@@ -77,8 +78,9 @@ fn cell_of(ticks: u64, plot: u64) -> u64
 }
 
 impl Grid {
-    /// Returns the grid of a picture.
+    /// Returns the grid of a picture of a short window.
     pub fn of(alloc: Global, picture: &Picture) -> Result<Grid, AllocError>
+        requires { IsShort picture.now.window }
         ensures { IfOk result (λ grid. grid ≡ grid_of picture.now) }
     {
         let window = picture.window;

@@ -2,13 +2,14 @@
 
 ghost use Rattle.std.specs.Prelude.{◌≡◌, ◌≤◌, ◌<◌, ◌++◌, IfOk, OnOk, string_bytes};
 ghost use Rattle.std.specs.List.{list_any};
-ghost use Rattle.cbsrun_timeline.specs.Timelines.{block_text, blocks_text, cell_text, charged_legend, drawn_text, heading_text, hidden_line, is_charged, legend_text, servers_text, timeline_text};
+ghost use Rattle.cbsrun_timeline.specs.Timelines.{block_text, blocks_text, cell_text, charged_legend, drawn_text, heading_text, hidden_line, is_charged, left_out_line, legend_text, servers_text, timeline_text};
+ghost use Rattle.cbsrun_window.specs.Windows.{IsShort};
 
 use crate::grid::Grid;
 use crate::legend::{CHARGED_LEGEND, COLUMN_LEGEND, LEGEND};
 use crate::lines::append_server;
 use crate::ruler::append_ruler;
-use cbsrun_chart::{Counts, Drawn, Hidden, Picture, Window};
+use cbsrun_chart::{Counts, Drawn, Hidden, LeftOut, Picture, Window};
 use std::alloc::{AllocError, Global};
 use std::fmt::Write;
 
@@ -44,6 +45,18 @@ fn append_hidden(text: &mut String, hidden: Option<Hidden>) -> Result<(), AllocE
 {
     match hidden {
         Some(hidden) => writeln!(text, "{hidden}"),
+        None => Ok(()),
+    }
+}
+
+/// Appends the line of how many servers are not drawn, if there are any.
+#[tactic(auto, unfolding(crate::specs::Timelines::left_out_line))]
+fn append_left_out(text: &mut String, left_out: Option<LeftOut>) -> Result<(), AllocError>
+    ensures { OnOk result (string_bytes text.new ≡ string_bytes text.old
+        ++ left_out_line left_out) }
+{
+    match left_out {
+        Some(left_out) => writeln!(text, "{left_out}"),
         None => Ok(()),
     }
 }
@@ -156,16 +169,18 @@ fn append_legend(
     append_charged_legend(text, window, servers)
 }
 
-/// Returns a picture as a timeline of text. Its lines have at most 80 letters, if the names have room. The only error
-/// is out of memory.
+/// Returns a picture of a short window as a timeline of text. Its lines have at most 80 letters, if the names have
+/// room. The only error is out of memory.
 #[tactic(auto, unfolding(crate::specs::Timelines::drawn_text))]
 pub fn timeline_text(alloc: Global, picture: &Picture) -> Result<String, AllocError>
+    requires { IsShort picture.now.window }
     ensures { IfOk result (λ text. string_bytes text ≡ timeline_text picture.now) }
 {
     let grid = Grid::of(alloc, picture)?;
     let mut text = String::new(alloc);
     append_heading(&mut text, &grid, &picture.file)?;
     append_hidden(&mut text, picture.hidden())?;
+    append_left_out(&mut text, picture.left_out())?;
     append_blocks(alloc, &mut text, &grid, &picture.servers)?;
     append_legend(&mut text, &grid, picture.window, &picture.servers)?;
     Ok(text)

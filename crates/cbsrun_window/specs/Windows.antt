@@ -17,12 +17,22 @@ has_tick w t = leb w.from t && ltb t w.to
 abbrev pub ends_tick : Window → ℕ → Bool
 ends_tick w t = ltb w.from t && leb t w.to
 
--- the ticks from one up to another are a window, if there are 1 to 20000 of them. Otherwise the error says why they are
--- none
+-- a window is short: it has at most 20000 ticks
+abbrev pub IsShort : Window → Type 0
+IsShort w = ticks_of w ≤ 20000
+
+-- the ticks from one up to another are a short window, if there are 1 to 20000 of them. Otherwise the error says why they
+-- are none
 abbrev pub AnswersWindow : ℕ → ℕ → Result Window WindowError → Type 0
-AnswersWindow from to (Ok w) = (w.from ≡ from) × (w.to ≡ to)
+AnswersWindow from to (Ok w) = (w.from ≡ from) × (w.to ≡ to) × IsShort w
 AnswersWindow from to (Err Empty) = to ≤ from
 AnswersWindow from to (Err TooLong) = from + 20000 < to
+
+-- the ticks from one up to another are a window, if there is one
+abbrev pub AnswersLong : ℕ → ℕ → Result Window WindowError → Type 0
+AnswersLong from to (Ok w) = (w.from ≡ from) × (w.to ≡ to)
+AnswersLong from to (Err Empty) = to ≤ from
+AnswersLong from to (Err TooLong) = ⊥
 
 -- the rule of the window. Of the ticks that are asked for, a run shows those before its end. If it has none of them,
 -- the error names the first one and the end

@@ -1,14 +1,14 @@
 //! The ticks that a picture shows.
 
-ghost use Rattle.std.specs.Prelude.{◌≡◌, ◌+◌, ◌-◌, ◌<◌, ◌≤◌};
+ghost use Rattle.std.specs.Prelude.{◌≡◌, ◌-◌, ◌<◌};
 
 use std::fmt;
 use thiserror::Error;
 
-/// The greatest number of ticks that a picture shows.
+/// The greatest number of ticks of a short window: of one that text or SVG shows.
 pub const MOST_TICKS: u64 = 20_000;
 
-/// The ticks from `from` up to `to`, without `to`: at least one, and at most [`MOST_TICKS`].
+/// The ticks from `from` up to `to`, without `to`: at least one.
 #[derive(Clone, Copy, Debug, PartialEq, Eq)]
 pub struct Window {
     /// The first tick.
@@ -16,7 +16,6 @@ pub struct Window {
     /// The tick after the last one.
     pub to: u64,
     ghost some: { from < to },
-    ghost short: { to ≤ from + 20000 },
 }
 
 /// The reason why ticks make no window.
@@ -25,15 +24,15 @@ pub enum WindowError {
     /// There is no tick from `from` up to `to`.
     #[error("there is no tick to show")]
     Empty,
-    /// There are more than [`MOST_TICKS`] ticks.
+    /// There are more than [`MOST_TICKS`] ticks, and a short window is wanted.
     #[error("at most 20000 ticks are shown at a time")]
     TooLong,
 }
 
 impl Window {
-    ghost use Rattle.cbsrun_window.specs.Windows.{AnswersWindow, ends_tick, has_tick, ticks_of};
+    ghost use Rattle.cbsrun_window.specs.Windows.{AnswersLong, AnswersWindow, ends_tick, has_tick, ticks_of};
 
-    /// Returns the window of the ticks from `from` up to `to`. Refuses if there is no such tick, or more than
+    /// Returns the short window of the ticks from `from` up to `to`. Refuses if there is no such tick, or more than
     /// [`MOST_TICKS`].
     pub fn new(from: u64, to: u64) -> Result<Window, WindowError>
         ensures { AnswersWindow from to result }
@@ -47,11 +46,20 @@ impl Window {
         Ok(Window { from, to })
     }
 
-    /// Returns how many ticks the window has: 1 to 20,000.
+    /// Returns the window of the ticks from `from` up to `to`, however many they are. Refuses if there is no such tick.
+    pub fn long(from: u64, to: u64) -> Result<Window, WindowError>
+        ensures { AnswersLong from to result }
+    {
+        if to <= from {
+            return Err(WindowError::Empty);
+        }
+        Ok(Window { from, to })
+    }
+
+    /// Returns how many ticks the window has.
     pub fn ticks(&self) -> u64
         ensures value { result ≡ ticks_of self.now }
         ensures some { 0 < result }
-        ensures few { result ≤ 20000 }
     {
         self.to - self.from
     }

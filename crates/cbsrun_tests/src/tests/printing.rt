@@ -5,8 +5,8 @@ ghost use Rattle.std.specs.Prelude.{◌≡◌};
 use super::fakes::{Memory, Outcome};
 use super::same;
 use cbsrun_commands::{
-    Changes, Drawing, Form, LoadReport, LoadSweep, NoProgress, Seeds, SweepForm, Window,
-    check_bytes_within, draw_load_within, draw_tasks_within, report_bytes_within,
+    Changes, Drawing, Form, LoadReport, LoadSweep, NoProgress, RunDrawing, Seeds, SweepForm,
+    Window, check_bytes_within, draw_load_within, draw_tasks_within, report_bytes_within,
     simulate_bytes_within, simulate_jobs_within, simulate_lines_within, sweep_bytes_within,
 };
 use std::alloc::Global;
@@ -79,8 +79,8 @@ enum Asked {
     WriteLoadJobs,
     SweepLoad,
     ReportTasks(Form),
-    DrawLoad(Drawing, Window),
-    DrawTasks(Drawing, Window),
+    DrawLoad(RunDrawing),
+    DrawTasks(RunDrawing),
 }
 
 /// No changes of a load.
@@ -143,11 +143,11 @@ fn printed(alloc: Global, asked: Asked, memory: u64, file: &str, mut out: Memory
         Asked::ReportTasks(form) => {
             report_bytes_within(alloc, memory, form, name, bytes, &mut out, &mut err)
         }
-        Asked::DrawLoad(drawing, ticks) => draw_load_within(
+        Asked::DrawLoad(drawing) => draw_load_within(
             alloc,
             memory,
             drawing,
-            ticks,
+            &[],
             NONE,
             name,
             bytes,
@@ -155,16 +155,41 @@ fn printed(alloc: Global, asked: Asked, memory: u64, file: &str, mut out: Memory
             &mut out,
             &mut err,
         ),
-        Asked::DrawTasks(drawing, ticks) => draw_tasks_within(
-            alloc, memory, drawing, ticks, name, bytes, &mut out, &mut err,
+        Asked::DrawTasks(drawing) => draw_tasks_within(
+            alloc,
+            memory,
+            drawing,
+            &[],
+            name,
+            bytes,
+            &mut out,
+            &mut err,
         ),
     };
     Outcome { status, out, err }
 }
 
-/// Returns the window of the ticks from `from` up to `to`.
-fn ticks(rt: &impl Abort, from: u64, to: u64) -> Window {
-    Window::new(from, to).ok().expect(rt, "ticks")
+/// Returns the drawing of the ticks from 0 up to `to`.
+fn drawing_to(rt: &impl Abort, drawing: Drawing, to: u64) -> RunDrawing {
+    let ticks = Window::new(0, to).ok().expect(rt, "ticks");
+    let bounded = true;
+    match drawing {
+        Drawing::Svg => RunDrawing {
+            drawing: Drawing::Svg,
+            ticks,
+            bounded,
+        },
+        Drawing::Text => RunDrawing {
+            drawing: Drawing::Text,
+            ticks,
+            bounded,
+        },
+        Drawing::Trace => RunDrawing {
+            drawing: Drawing::Trace,
+            ticks,
+            bounded,
+        },
+    }
 }
 
 /// What is asked of a file, and what the answer begins with, has somewhere, and ends with.
@@ -282,10 +307,10 @@ fn a_text_is_printed_to_its_end(rt: HostRuntime) {
 #[test]
 fn a_run_is_drawn_up_to_its_end(rt: HostRuntime) {
     let alloc = rt.alloc();
-    let all = ticks(&rt, 0, 20_000);
     for &(drawing, parts) in &DRAWN {
-        is_printed(&rt, alloc, Asked::DrawLoad(drawing, all), LOAD, parts);
-        is_printed(&rt, alloc, Asked::DrawTasks(drawing, all), TASKS, parts);
+        let all = drawing_to(&rt, drawing, 20_000);
+        is_printed(&rt, alloc, Asked::DrawLoad(all), LOAD, parts);
+        is_printed(&rt, alloc, Asked::DrawTasks(all), TASKS, parts);
     }
 }
 
@@ -302,7 +327,8 @@ fn is_cut(rt: &impl Abort, alloc: Global, asked: Asked, file: &str, prefix: &str
 #[test]
 fn a_writer_that_fails_has_a_prefix(rt: HostRuntime) {
     let alloc = rt.alloc();
-    let some = ticks(&rt, 0, 4);
+    let svg = drawing_to(&rt, Drawing::Svg, 4);
+    let trace = drawing_to(&rt, Drawing::Trace, 4);
     for (asked, file, prefix) in &[
         (
             Asked::Check {
@@ -323,8 +349,8 @@ fn a_writer_that_fails_has_a_prefix(rt: HostRuntime) {
         (Asked::WriteLoadLines, LOAD, "@0 su"),
         (Asked::WriteLoadJobs, LOAD, "serve"),
         (Asked::ReportTasks(Form::Report), TASKS, "in ti"),
-        (Asked::DrawLoad(Drawing::Svg, some), LOAD, "<svg "),
-        (Asked::DrawTasks(Drawing::Trace, some), TASKS, "{\"dis"),
+        (Asked::DrawLoad(svg), LOAD, "<svg "),
+        (Asked::DrawTasks(trace), TASKS, "{\"dis"),
     ] {
         is_cut(&rt, alloc, *asked, file, prefix);
     }
@@ -374,7 +400,8 @@ fn is_explained(rt: &impl Abort, alloc: Global, asked: Asked, file: &str, explai
 #[test]
 fn a_fault_is_explained_if_there_is_memory(rt: HostRuntime) {
     let alloc = rt.alloc();
-    let some = ticks(&rt, 0, 4);
+    let text = drawing_to(&rt, Drawing::Text, 4);
+    let svg = drawing_to(&rt, Drawing::Svg, 4);
     let load = ("load = 2\n", LOAD_EXPLAINED);
     let tasks = ("format = 3\nstep = []\n", TASKS_EXPLAINED);
     for (asked, (file, explained)) in &[
@@ -396,8 +423,8 @@ fn a_fault_is_explained_if_there_is_memory(rt: HostRuntime) {
         (Asked::WriteLoadJobs, load),
         (Asked::SweepLoad, load),
         (Asked::ReportTasks(Form::Report), tasks),
-        (Asked::DrawLoad(Drawing::Text, some), load),
-        (Asked::DrawTasks(Drawing::Svg, some), tasks),
+        (Asked::DrawLoad(text), load),
+        (Asked::DrawTasks(svg), tasks),
     ] {
         is_explained(&rt, alloc, *asked, file, explained);
     }

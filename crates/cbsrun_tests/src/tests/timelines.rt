@@ -2,13 +2,14 @@
 
 use crate::tests::by_hand::by_hand;
 use crate::tests::same;
-use cbsrun_chart::Picture;
+use cbsrun_chart::{MOST_TICKS, Picture};
 use cbsrun_timeline::timeline_text;
 use std::alloc::Global;
 use std::process::Abort;
 
 /// Tests that the timeline of a picture is this text.
 fn says(rt: &impl Abort, alloc: Global, picture: &Picture, wanted: &str) {
+    assert!(rt; picture.window.ticks() <= MOST_TICKS);
     let text = timeline_text(alloc, picture).ok().expect(rt, "memory");
     same(rt, "timeline", text.as_str(), wanted);
 }

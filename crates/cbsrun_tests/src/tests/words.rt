@@ -3,8 +3,8 @@
 
 use super::same;
 use cbsrun_commands::{
-    Action, Changes, Drawing, Form, LoadReport, LoadSweep, Seeds, SweepForm, Verb, Window,
-    WordsFault, read_words,
+    Action, Changes, Drawing, Form, LoadReport, LoadSweep, RunDrawing, Seeds, SweepForm, Verb,
+    Window, WordsFault, read_words,
 };
 use std::alloc::Global;
 use std::process::Abort;
@@ -133,40 +133,90 @@ fn a_form_stands_before_or_after_the_file(rt: HostRuntime) {
     all_ask(&rt, rt.alloc(), &FORMS, "a.toml");
 }
 
-/// Ends the test unless a command line asks for these ticks of a load.
-fn shows(rt: &impl Abort, alloc: Global, line: &str, from: u64, to: u64) {
+/// Returns a picture in SVG of the ticks from `from` up to `to`, the end of which the command line says or not.
+fn svg_of(rt: &impl Abort, line: &str, from: u64, to: u64, bounded: bool) -> RunDrawing {
     let ticks = Window::new(from, to).ok().expect(rt, line);
-    asks(
-        rt,
-        alloc,
-        line,
-        Action::DrawLoad(Drawing::Svg, ticks, NONE),
-        "a.toml",
-    );
+    RunDrawing {
+        drawing: Drawing::Svg,
+        ticks,
+        bounded,
+    }
 }
 
-/// Command lines that draw a load, and the ticks that they show.
-static SHOWN: [(&str, u64, u64); 4] = [
-    ("cbsrun simulate --as svg a.toml", 0, 20_000),
+/// Ends the test unless a command line asks for these ticks of a load.
+fn shows(rt: &impl Abort, alloc: Global, line: &str, from: u64, to: u64, bounded: bool) {
+    let drawing = svg_of(rt, line, from, to, bounded);
+    asks(rt, alloc, line, Action::DrawLoad(drawing, NONE), "a.toml");
+}
+
+/// Ends the test unless a command line asks for a trace of these ticks of a load, the end of which it says or not.
+fn traces(rt: &impl Abort, alloc: Global, line: &str, from: u64, to: u64, bounded: bool) {
+    let drawing = RunDrawing {
+        drawing: Drawing::Trace,
+        ticks: Window::long(from, to).ok().expect(rt, line),
+        bounded,
+    };
+    asks(rt, alloc, line, Action::DrawLoad(drawing, NONE), "a.toml");
+}
+
+/// Command lines that draw a load, the ticks that they show, and whether they say where these end.
+static SHOWN: [(&str, u64, u64, bool); 4] = [
+    ("cbsrun simulate --as svg a.toml", 0, 20_000, false),
     (
         "cbsrun simulate --as=svg --from 90 a.toml --to=130",
         90,
         130,
+        true,
     ),
-    ("cbsrun simulate --as svg --from 7 a.toml", 7, 20_007),
-    ("cbsrun simulate --as svg --to 20000 a.toml", 0, 20_000),
+    ("cbsrun simulate --as svg --from 7 a.toml", 7, 20_007, false),
+    (
+        "cbsrun simulate --as svg --to 20000 a.toml",
+        0,
+        20_000,
+        true,
+    ),
+];
+
+/// Command lines that trace a load, and the same of them. A trace has no greatest number of ticks.
+static TRACED: [(&str, u64, u64, bool); 2] = [
+    (
+        "cbsrun simulate --as trace --from 5 a.toml",
+        5,
+        u64::MAX,
+        false,
+    ),
+    (
+        "cbsrun simulate --as trace --to 20001 a.toml",
+        0,
+        20_001,
+        true,
+    ),
 ];
 
 #[test]
 fn a_picture_shows_ticks(rt: HostRuntime) {
     let alloc = rt.alloc();
-    for &(line, from, to) in &SHOWN {
-        shows(&rt, alloc, line, from, to);
+    for &(line, from, to, bounded) in &SHOWN {
+        shows(&rt, alloc, line, from, to, bounded);
     }
-    let ticks = Window::new(0, 9).ok().expect(&rt, "ticks");
-    let tasks = Action::DrawTasks(Drawing::Svg, ticks);
+    for &(line, from, to, bounded) in &TRACED {
+        traces(&rt, alloc, line, from, to, bounded);
+    }
     let line = "cbsrun replay --to 9 a.toml --as svg";
+    let tasks = Action::DrawTasks(svg_of(&rt, line, 0, 9, true));
     asks(&rt, alloc, line, tasks, "a.toml");
+}
+
+#[test]
+fn a_picture_draws_the_servers_that_are_named(rt: HostRuntime) {
+    let alloc = rt.alloc();
+    let line = "cbsrun replay --as text --server b a.toml --server a";
+    let asked = read_words(alloc, words(&rt, alloc, line))
+        .ok()
+        .expect(&rt, line);
+    assert!(&rt; asked.servers.len() == 2);
+    same(&rt, line, asked.servers[0].as_str(), "b");
+    same(&rt, line, asked.servers[1].as_str(), "a");
 }
 
 /// The greatest seed, and the last tick at which a simulation may end.

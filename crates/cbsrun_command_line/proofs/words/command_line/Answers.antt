@@ -1,6 +1,6 @@
 use Rattle.std.proofs.Common.{◌≡◌, ◌∙◌, ap₂, codes}
 use Rattle.std.proofs.lemmas.Result.{IfOk-weaker}
-use Rattle.clap.specs.Words.{App, app_of}
+use Rattle.clap.specs.Words.{app_of}
 use Rattle.cbsrun_command_line.specs.Words.{bare_program, checking, in_a_form, simulating, sizing, with_verb}
 use Rattle.cbsrun_command_line.proofs.words.command_line.Goals as goal
 

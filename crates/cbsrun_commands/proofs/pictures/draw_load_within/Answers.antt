@@ -1,8 +1,9 @@
-use Rattle.cbsrun_commands.specs.Outputs.{load_drawing}
-use Rattle.cbsrun_commands.proofs.Endings.{ends}
+use Rattle.std.proofs.Common.{map, string_bytes}
+use Rattle.cbsrun_commands.specs.Drawings.{load_drawer}
+use Rattle.cbsrun_commands.proofs.Drawings.{ends_drawing}
 use Rattle.cbsrun_commands.proofs.pictures.draw_load_within.Goals as goal
 
 pub returns : goal.returns
 returns g c =
-    rw (← c.is_closed.ensures) (ends (load_drawing c.args.changes c.args.drawing c.args.asked c.args.name.now) c.args.name.now c.args.bytes.now _ _ _ _ _ c.draw_load-ended.result c.status_of.result
-    c.draw_load-ended.ensures c.status_of.ensures)
+    rw (← c.is_closed.ensures) (ends_drawing (load_drawer c.args.changes c.args.asked (map string_bytes c.args.servers.now) c.args.name.now) c.args.bytes.now _ _ _ _ _ c.draw_load-ended.result c.status_of_drawing.result
+    c.draw_load-ended.ensures c.status_of_drawing.ensures)

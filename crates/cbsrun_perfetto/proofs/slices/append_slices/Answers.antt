@@ -8,7 +8,7 @@ use Rattle.cbsrun_perfetto.proofs.slices.append_slices.Goals as goal
 pub loop-span-preserved : goal.loop-span-preserved
 loop-span-preserved c =
     piece_taken (λ (p : Stretch). slice_of c.args.thread c.args.chart.now.jobs.items p.kind p) _ _ _ _ c.loop-span.span-index _ c.loop-span-test.true
-    (rw c.deref.ensures.value at c.in_ok-append_slice.ensures) c.loop-span.invariant
+    (rw c.deref-in-loop-span.ensures.value at c.in_ok-append_slice.ensures) c.loop-span.invariant
 
 pub returns : goal.returns
 unfolding slices_of

@@ -1,0 +1,6 @@
+use Rattle.std.proofs.Common.{◌≡◌, map, string_bytes, take}
+use Rattle.cbsrun_command_line.proofs.words.copies_of.Given as goal
+
+-- the first texts
+abbrev pub invariant-loop-text : goal.invariant-loop-text
+invariant-loop-text l = map string_bytes l.copies.items ≡ map (λ text. text.now) (take l.text-index l.texts)

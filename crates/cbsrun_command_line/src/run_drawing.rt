@@ -1,0 +1,18 @@
+//! The drawing of a run that a command line asks for.
+
+ghost use Rattle.cbsrun_command_line.specs.Fits.{Fits};
+
+use crate::actions::Drawing;
+use cbsrun_window::Window;
+
+/// The drawing of a run that a command line asks for.
+#[derive(Clone, Copy, Debug, PartialEq, Eq)]
+pub struct RunDrawing {
+    /// The form in which the run is drawn.
+    pub drawing: Drawing,
+    /// The ticks that are asked for: however many for a trace, and else a short window.
+    pub ticks: Window,
+    /// Whether the command line says where the ticks end.
+    pub bounded: bool,
+    ghost fits: { Fits drawing ticks },
+}
