@@ -27,6 +27,9 @@ const FULL: &str =
 /// A source without the keys that may be left out.
 const BARE: &str = "[[source]]\nserver = \"control\"\nevery = 5\nunits = 1\n";
 
+/// A source that lists its ticks.
+const LISTED: &str = "[[source]]\nserver = \"control\"\nat = [2, 9, 14]\nunits = 1\njitter = 4\n";
+
 /// Returns the bytes of these texts, one after another.
 fn bytes_of(rt: &impl Abort, alloc: Global, texts: &[&str]) -> Vec<u8> {
     let mut bytes = Vec::new(alloc);
@@ -85,6 +88,25 @@ fn a_load_holds_what_its_file_says(rt: HostRuntime) {
 }
 
 #[test]
+fn a_source_lists_its_ticks(rt: HostRuntime) {
+    let load = load_of(&rt, rt.alloc(), &[TOP, CONTROL, BARE, LISTED]);
+    let listed = SourceTerms {
+        server: 0,
+        first: 2,
+        every: range(&rt, 5, 7),
+        jitter: 4,
+        units: Range::fixed(1),
+        jobs: Some(3),
+        within: Some(5),
+        overrun: Range::fixed(0),
+    };
+    assert!(rt; load.sources().get(1) == Some(&listed));
+    assert!(rt; load.listed().len() == 2);
+    assert!(rt; load.listed()[0].is_empty());
+    assert!(rt; load.listed()[1].as_slice() == [2, 9, 14].as_slice());
+}
+
+#[test]
 fn a_seed_left_out_is_0(rt: HostRuntime) {
     let load = load_of(&rt, rt.alloc(), &[TOP, CONTROL, BARE]);
     assert!(rt; load.seed() == 0);
@@ -106,9 +128,13 @@ impl View<()> for Nobody {
 fn comes_to(rt: &impl Abort, alloc: Global, text: &str, rows: [(u64, u64); 4]) {
     let load = load_of(rt, alloc, &[text]);
     let until = load.until();
-    let mut releases = cbsrun_simulate::load_of(alloc, load.sources(), until, load.seed()).expect(
-        rt, "memory",
-    );
+    let mut releases = cbsrun_simulate::load_of(
+        alloc,
+        load.sources(),
+        load.listed(),
+        until,
+        load.seed(),
+    ).expect(rt, "memory");
     let core = simulate_plan(
         alloc,
         load.plan(),

@@ -79,7 +79,9 @@ fn shown(
             .ok()
             .expect(rt, "admitted");
     }
-    let mut load = load_of(alloc, terms, until, 0).ok().expect(rt, "memory");
+    let mut load = load_of(alloc, terms, &[], until, 0)
+        .ok()
+        .expect(rt, "memory");
     let mut moments = Moments {
         seen: Vec::new(alloc),
     };
@@ -280,7 +282,7 @@ fn drawn_releases(rt: HostRuntime) {
         within: None,
         overrun: Range::new(0, 1_000_000_000).expect(&rt, "overrun"),
     };
-    let mut source = Source::new(54, &terms, 1_000_000_000_000, 42);
+    let mut source = Source::new(54, &terms, &[], 1_000_000_000_000, 42);
     let rows = [
         (5, 526_152, 74_289_934),
         (638_291_276_544, 972_795, 782_648_078),
@@ -302,7 +304,7 @@ fn drawn_releases_with_a_jitter(rt: HostRuntime) {
         within: None,
         overrun: Range::new(0, 3).expect(&rt, "overrun"),
     };
-    let mut source = Source::new(54, &terms, 320, 42);
+    let mut source = Source::new(54, &terms, &[], 320, 42);
     let rows = [
         (21, 5, 0),
         (77, 8, 1),
@@ -313,5 +315,23 @@ fn drawn_releases_with_a_jitter(rt: HostRuntime) {
         (316, 7, 0),
     ];
     releases(&rt, &mut source, &rows);
+    same(&rt, "the end", source.first(), None);
+}
+
+// The nominal ticks are those that are listed, and each job comes at its own.
+#[test]
+fn listed_releases(rt: HostRuntime) {
+    let terms = SourceTerms {
+        server: 3,
+        first: 5,
+        every: Range::new(7, 8).expect(&rt, "every"),
+        jitter: 0,
+        units: Range::fixed(2),
+        jobs: Some(3),
+        within: None,
+        overrun: Range::fixed(0),
+    };
+    let mut source = Source::new(54, &terms, &[5, 12, 20], 100, 42);
+    releases(&rt, &mut source, &[(5, 2, 0), (12, 2, 0), (20, 2, 0)]);
     same(&rt, "the end", source.first(), None);
 }
