@@ -4,12 +4,9 @@ use Rattle.std.specs.Prelude.{IfOk}
 use Rattle.cbsrun_tasks.specs.Spelling.{file}
 use Rattle.cbsrun_tasks.specs.TaskFiles.{File}
 use Rattle.cbsrun_toml_tables.specs.declared.fault.FileFault.{FileFault}
-use Rattle.cbsrun_runs.specs.Runs.{IsPictureOf}
-use Rattle.cbsrun_runs.specs.Tasks.{clock_of_tasks, run_of_tasks}
-use Rattle.cbsrun_command_line.specs.declared.actions.Drawing.{Drawing}
+use Rattle.cbsrun_runs.specs.Tasks.{clock_of_tasks}
 use Rattle.cbsrun_command_line.specs.declared.actions.Form.{Form}
-use Rattle.cbsrun_commands.specs.Outputs.{IsTaskReportText, IsDrawingOf}
-use Rattle.cbsrun_window.specs.declared.window.Window.{Window}
+use Rattle.cbsrun_commands.specs.Outputs.{IsTaskReportText}
 use Rattle.cbsrun_lines.specs.Writers.{Writer, IsUntouched}
 use Rattle.cbsrun_lines.specs.declared.run_error.RunError.{RunError}
 use Rattle.cbsrun_lines.specs.declared.run_error.RunError.TheVariants.{OutOfMemory, WriteFault, ClockEnd, Stalled}
@@ -37,13 +34,9 @@ prints_as is is' f (Err error) old new h = stops_as is is' f IsUntouched error o
 pub same_file : (bytes : List ℕ) (f h : File) → file bytes ≡ Ok f → file bytes ≡ Ok h → clock_of_tasks f ≡ clock_of_tasks h
 same_file bytes f h p q = let same : f ≡ h = cc in ap clock_of_tasks same
 
--- the report, and the picture, of a task file are those of its run
+-- the report of a task file is that of its run
 pub told_of : (form : Form) (name : List ℕ) (r f : File) (text : List ℕ) → r ≡ f → IsTaskReportText form name r text → IsTaskReportText form name f text
 told_of form name r f text is told = subst (λ (g : File). IsTaskReportText form name g text) is told
-
-pub drawn_of : (drawing : Drawing) (name : List ℕ) (w : Window) (r f : File) (text : List ℕ) → r ≡ f
-    → IsDrawingOf drawing (IsPictureOf name (run_of_tasks r) w) text → IsDrawingOf drawing (IsPictureOf name (run_of_tasks f) w) text
-drawn_of drawing name w r f text is drawn = subst (λ (g : File). IsDrawingOf drawing (IsPictureOf name (run_of_tasks g) w) text) is drawn
 
 -- a command ends as it did, and as it was told
 pub ends : {F : Type 0} (c : Command F) (name bytes : List ℕ) (closed : Bool) (out out' err err' : Writer) (ended : Result (Unit {0}) Stopped) (status : ℕ)

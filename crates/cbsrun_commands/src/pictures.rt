@@ -73,8 +73,10 @@ fn print_drawing<R: Run, P: Progress, O: ByteOutput>(
     ensures { PrintsDrawing asked (map string_bytes servers.now) name.now (R.run run.old) end result
         (O.state out.old) (O.state out.new) }
 {
-    if let Some(told) = no_server(alloc, run, servers)? {
-        return Ok(Drawn::NoServer(told));
+    let missing = no_server(alloc, run, servers)?;
+    match missing {
+        Some(told) => return Ok(Drawn::NoServer(told)),
+        None => {}
     }
     let window = shown_of(asked.ticks, end)?;
     print_picture(

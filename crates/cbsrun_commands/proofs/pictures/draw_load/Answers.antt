@@ -13,8 +13,10 @@ returns-in_err-load g c =
 
 pub returns : goal.returns
 returns g c =
+    let old = g.O.ByteOutput.state c.args.out.now in
+    let new = g.O.ByteOutput.state c.print_drawing.new.out in
     let f = c.in_ok-load.load in
     let servers = map string_bytes c.args.servers.now in
-    drawn_of_file (load_drawer c.args.changes c.args.asked servers c.args.name.now) c.args.bytes.now f c.print_drawing.result _ _ c.in_ok-load.ensures
-    (subst (λ (n : ℕ). PrintsDrawing c.args.asked servers c.args.name.now (run_of f) n c.print_drawing.result _ _) c.until-end.ensures.value
+    drawn_of_file (load_drawer c.args.changes c.args.asked servers c.args.name.now) c.args.bytes.now f c.print_drawing.result old new c.in_ok-load.ensures
+    (subst (λ (n : ℕ). PrintsDrawing c.args.asked servers c.args.name.now (run_of f) n c.print_drawing.result old new) c.until-end.ensures.value
     c.print_drawing.ensures)

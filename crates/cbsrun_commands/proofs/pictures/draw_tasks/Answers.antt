@@ -25,6 +25,8 @@ returns-in_err-tasks g c =
 
 pub returns : goal.returns
 returns g c =
+    let old = g.O.ByteOutput.state c.args.out.now in
+    let new = g.O.ByteOutput.state c.print_drawing.new.out in
     let f = c.in_ok-tasks.tasks in
     let servers = map string_bytes c.args.servers.now in
     let asked = c.args.asked in
@@ -32,6 +34,6 @@ returns g c =
     let r = c.print_drawing.result in
     let end : c.in_ok-end.end ≡ clock_of_tasks f = c.in_ok-end.ensures
     ∙ same_file c.args.bytes.now c.in_ok-first.first f c.in_ok-first.ensures c.in_ok-tasks.ensures in
-    let printed = subst (λ (h : File). PrintsDrawing asked servers name (run_of_tasks h) c.in_ok-end.end r _ _) c.of-replay.ensures c.print_drawing.ensures in
-    drawn_of_file (task_drawer asked servers name) c.args.bytes.now f r _ _ c.in_ok-tasks.ensures
-    (subst (λ (n : ℕ). PrintsDrawing asked servers name (run_of_tasks f) n r _ _) end printed)
+    let printed = subst (λ (h : File). PrintsDrawing asked servers name (run_of_tasks h) c.in_ok-end.end r old new) c.of-replay.ensures c.print_drawing.ensures in
+    drawn_of_file (task_drawer asked servers name) c.args.bytes.now f r old new c.in_ok-tasks.ensures
+    (subst (λ (n : ℕ). PrintsDrawing asked servers name (run_of_tasks f) n r old new) end printed)

@@ -8,14 +8,14 @@ use Rattle.cbsrun_commands.proofs.Endings.{prints_as}
 use Rattle.std.proofs.lemmas.Result.{err_from_is_err_and}
 use Rattle.cbsrun_commands.proofs.pictures.print_picture.Goals as goal
 
-pub drawn_text-requires-few : goal.drawn_text-requires-few
-drawn_text-requires-few g c =
+pub drawn_text-requires-clause-few : goal.drawn_text-requires-clause-few
+drawn_text-requires-clause-few g c =
     let all = c.in_ok-picture_of.field-0 in
     let few = chosen_few (map string_bytes c.args.servers.now) all.servers.items in
     omega (arith, few, ap length c.chosen-picture.ensures.servers, c.in_ok-picture_of.ensures.few)
 
-pub drawn_text-requires-fits : goal.drawn_text-requires-fits
-drawn_text-requires-fits g c =
+pub drawn_text-requires-clause-fits : goal.drawn_text-requires-clause-fits
+drawn_text-requires-clause-fits g c =
     let drawn = c.in_ok-picture_of.ensures.picture in
     let same = c.chosen-picture.ensures.window ∙ (drawn.picture.window ∙ drawn.window) in
     subst (λ (w : Window). Fits c.args.drawing w) (sym same) c.requires.fits
