@@ -85,7 +85,6 @@ fn picture_of_chart<R: Run>(
         reserved: run.plan().bandwidth(),
         window,
         end,
-        tick: run.tick(),
         idle,
         servers,
         others: 0,

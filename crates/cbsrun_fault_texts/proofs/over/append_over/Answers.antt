@@ -29,7 +29,7 @@ append_sum-requires-clause-own c =
     let some = rate.some in
     let within = rate.within in
     let short = rate.short in
-    rw c.ratio_of-own.ensures.value (record { some = omega arith; budget = omega arith; period = omega arith; })
+    rw c.ratio_of-own.ensures.value (record { some = omega arith; budget = omega arith; period = omega arith })
 
 pub append_sum-requires-clause-excess : goal.append_sum-requires-clause-excess
 append_sum-requires-clause-excess c =

@@ -5,4 +5,4 @@ pub append_row-requires : goal.append_row-requires
 append_row-requires c =
     let part = c.requires.budget in
     let whole = c.requires.period in
-    record { some = c.requires.some; small = omega arith; }
+    record { some = c.requires.some; small = omega arith }

@@ -18,6 +18,5 @@ returns c =
       reserved = refl;
       window = refl;
       end = refl;
-      tick = refl;
       idle = refl;
     }
