@@ -101,9 +101,10 @@ fn a_source_lists_its_ticks(rt: HostRuntime) {
         overrun: Range::fixed(0),
     };
     assert!(rt; load.sources().get(1) == Some(&listed));
-    assert!(rt; load.listed().len() == 2);
-    assert!(rt; load.listed()[0].is_empty());
-    assert!(rt; load.listed()[1].as_slice() == [2, 9, 14].as_slice());
+    let ticks = load.listed();
+    assert!(rt; ticks.len() == 2);
+    assert!(rt; ticks[0].is_empty());
+    assert!(rt; ticks[1].as_slice() == [2, 9, 14].as_slice());
 }
 
 #[test]
