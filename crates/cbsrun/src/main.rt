@@ -25,7 +25,7 @@ use std::env;
 use std::env::VarError;
 use std::io::{ErrorKind, IsTerminal};
 use std::process::ExitCode;
-use std::thread::Threads;
+use std::thread::{Threads, available_parallelism};
 use std::time::Clock;
 
 /// Returns the words of the command line.
@@ -65,13 +65,22 @@ fn asked_of(rt: &HostRuntime, alloc: Global) -> Result<(Asked, u64), WordsFault>
     Ok((asked, memory_of(rt, alloc)?))
 }
 
-/// Runs the command that the command line asks for on the bytes of a file, and returns the status. It serves on
-/// `threads`.
+/// Returns how many threads many runs are split among: as many as there are processors, or one if that is not known.
+fn processors(rt: &impl Threads) -> usize {
+    match available_parallelism(rt) {
+        Ok(count) => count.get(),
+        Err(_) => 1,
+    }
+}
+
+/// Runs the command that the command line asks for on the bytes of the file `name`, and returns the status. It runs and
+/// serves on `threads`.
 fn answered<R: Threads + Clock + Sync, P: Progress, O: ByteOutput, E: ByteOutput>(
     threads: &R,
     alloc: Global,
     memory: u64,
     asked: &Asked,
+    name: &str,
     bytes: &[u8],
     progress: &mut P,
     out: &mut O,
@@ -80,7 +89,6 @@ fn answered<R: Threads + Clock + Sync, P: Progress, O: ByteOutput, E: ByteOutput
     requires out { MayWrite (O.state out.old) }
     requires err { MayWrite (E.state err.old) }
 {
-    let name = asked.file.as_str();
     let servers = asked.servers.as_slice();
     match asked.action {
         Action::Check { form, strict } => {
@@ -97,7 +105,8 @@ fn answered<R: Threads + Clock + Sync, P: Progress, O: ByteOutput, E: ByteOutput
             simulate_jobs_within(alloc, memory, changes, name, bytes, progress, out, err)
         }
         Action::SweepLoad(sweep) => {
-            sweep_bytes_within(alloc, memory, sweep, name, bytes, out, err)
+            let count = processors(threads);
+            sweep_bytes_within(threads, count, alloc, memory, sweep, name, bytes, out, err)
         }
         Action::DrawLoad(drawing, changes) => draw_load_within(
             alloc, memory, drawing, servers, changes, name, bytes, progress, out, err,
@@ -153,10 +162,11 @@ fn is_explained(action: Action) -> bool {
     !matches!(action, Action::Run(_))
 }
 
-/// Writes why the file of the command line could not be read, and returns the status.
+/// Writes why the file `name` could not be read, and returns the status.
 fn status_of_unread<E: ByteOutput>(
     rt: &HostRuntime,
     asked: &Asked,
+    name: &str,
     unread: &Unread,
     err: &mut E,
 ) -> u8
@@ -164,16 +174,18 @@ fn status_of_unread<E: ByteOutput>(
 {
     let _written = write_read_fault(err, unread.fault());
     if is_explained(asked.action) {
-        write_reason(rt, rt.alloc(), asked.file.as_str(), unread, err);
+        write_reason(rt, rt.alloc(), name, unread, err);
     }
     BAD_FILE
 }
 
-/// Runs the command that the command line asks for, and returns the status. It serves on `threads`.
+/// Runs the command that the command line asks for on the file `name`, and returns the status. It runs and serves on
+/// `threads`.
 fn status_of<R: Threads + Clock + Sync>(
     rt: &HostRuntime,
     threads: &R,
     asked: &Asked,
+    name: &str,
     memory: u64,
 ) -> u8 {
     let alloc = rt.alloc();
@@ -182,9 +194,9 @@ fn status_of<R: Threads + Clock + Sync>(
     let mut out = ToWrite::new(Painted::new(rt.stdout(), alloc, in_out));
     let in_err = colours && rt.stderr().is_terminal();
     let mut err = ToWrite::new(Painted::new(rt.stderr(), alloc, in_err));
-    let bytes = match bytes_of(rt, alloc, asked.file.as_str()) {
+    let bytes = match bytes_of(rt, alloc, name) {
         Ok(bytes) => bytes,
-        Err(unread) => return status_of_unread(rt, asked, &unread, &mut err),
+        Err(unread) => return status_of_unread(rt, asked, name, &unread, &mut err),
     };
     let mut teller = Teller::new(rt);
     let status = answered(
@@ -192,6 +204,7 @@ fn status_of<R: Threads + Clock + Sync>(
         alloc,
         memory,
         asked,
+        name,
         &bytes,
         &mut teller,
         &mut out,
@@ -204,11 +217,38 @@ fn status_of<R: Threads + Clock + Sync>(
     status
 }
 
-/// Runs the whole program: reads its words, its environment and its file, and runs the command. Returns the status. It
-/// serves on `threads`.
+/// Writes the heading of the output of a file, as `head` writes it, if it is one of several and the output is for people.
+/// An empty line stands before each but the first.
+fn write_heading(rt: &HostRuntime, asked: &Asked, place: usize, name: &str) {
+    if asked.files.len() < 2 || !is_for_people(asked.action) {
+        return;
+    }
+    let before = if place > 0 { "\n" } else { "" };
+    let mut out = ToWrite::new(rt.stdout());
+    let _written = write_pieces(&mut out, &[before, "==> ", name, " <==\n"]);
+}
+
+/// Runs the command that the command line asks for on each of its files, in order, and returns the greatest status. It runs
+/// and serves on `threads`.
+fn greatest_status<R: Threads + Clock + Sync>(
+    rt: &HostRuntime,
+    threads: &R,
+    asked: &Asked,
+    memory: u64,
+) -> u8 {
+    let mut greatest = DONE;
+    for (place, file) in asked.files.iter().enumerate() {
+        write_heading(rt, asked, place, file.as_str());
+        greatest = greatest.max(status_of(rt, threads, asked, file.as_str(), memory));
+    }
+    greatest
+}
+
+/// Runs the whole program: reads its words, its environment and its files, and runs the command. Returns the status. It
+/// runs and serves on `threads`.
 fn status<R: Threads + Clock + Sync>(rt: &HostRuntime, threads: &R) -> u8 {
     match asked_of(rt, rt.alloc()) {
-        Ok((asked, memory)) => status_of(rt, threads, &asked, memory),
+        Ok((asked, memory)) => greatest_status(rt, threads, &asked, memory),
         Err(fault) => status_of_words(rt, fault),
     }
 }

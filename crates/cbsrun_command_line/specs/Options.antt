@@ -1,6 +1,6 @@
 -- The options of a command, and what they ask for.
-use Rattle.std.specs.Prelude.{◌≡◌, ⊤, ℕ, Bool, false, ◌+◌, ◌<◌, ◌≤◌, ◌^◌, eqb, ltb, length, min, bytes_eq, codes, if◌then◌else◌, MatchOption, option_map}
-use Rattle.std.specs.Prelude.{◌||◌, is_some, option_and_then, Option, Some, None, Result}
+use Rattle.std.specs.Prelude.{◌≡◌, ⊤, ℕ, Bool, false, true, ◌+◌, ◌<◌, ◌≤◌, ◌^◌, eqb, ltb, length, min, bytes_eq, codes, if◌then◌else◌, MatchOption, option_map}
+use Rattle.std.specs.Prelude.{◌||◌, ◌&&◌, is_some, option_and_then, Option, Some, None, Result}
 use Rattle.std.specs.List.{position_or_len, before_first, after_first}
 use Rattle.std.specs.Borrow.{Bor}
 use Rattle.std.specs.Str.Parse.{IsNumeral, digits_value, without_leading_plus}
@@ -63,6 +63,15 @@ said o = record {
 abbrev pub is_given : Option Text → Bool
 is_given None = false
 is_given (Some text) = bytes_eq text (codes "true")
+
+-- the form of the output is that of a report, as text or as JSON. Without a form, it is the text
+abbrev pub is_report : Option Text → Bool
+is_report None = true
+is_report (Some name) = bytes_eq name (codes "report") || bytes_eq name (codes "json")
+
+-- there is a file, and there are several only if the output is a report
+abbrev pub are_enough : Said → ℕ → Bool
+are_enough s files = eqb files 1 || ltb 1 files && is_report s.form
 
 -- the number that the digits of a text spell
 abbrev pub number_in : Text → ℕ

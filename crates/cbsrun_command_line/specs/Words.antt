@@ -1,9 +1,9 @@
 -- The command line as `clap` sees it.
-use Rattle.std.specs.Prelude.{◌≡◌, ◌⊎◌, List, [], codes, map, true, Option, Some, string_bytes, unwrap_or}
+use Rattle.std.specs.Prelude.{◌≡◌, ◌⊎◌, List, length, [], codes, map, true, Option, Some, string_bytes, unwrap_or}
 use Rattle.clap.specs.declared.builder.action.ArgAction.TheVariants.{Append, SetTrue}
 use Rattle.clap.specs.Words.{App, Row, Rule, Text, all_of, fault_of, first_of, new_app, new_rule, subcommand_of, takes, with_rule, with_subcommand}
 use Rattle.cbsrun_command_line.specs.Actions.{action_name}
-use Rattle.cbsrun_command_line.specs.Options.{Said, Asks}
+use Rattle.cbsrun_command_line.specs.Options.{Said, Asks, are_enough}
 use Rattle.cbsrun_command_line.specs.Faults.{TellsOfKinds}
 use Rattle.cbsrun_command_line.specs.declared.actions.Asked.{Asked}
 use Rattle.cbsrun_command_line.specs.declared.fault.WordsFault.{WordsFault}
@@ -16,6 +16,10 @@ file = record (new_rule (codes "FILE")) { required = true }
 -- the verb of this name, which takes a file
 abbrev pub on_file : Text → App
 on_file name = with_rule (new_app name) file
+
+-- the verb of this name, which takes one file or several
+abbrev pub on_files : Text → App
+on_files name = with_rule (new_app name) (record file { action = Some Append })
 
 -- an option of this name, which may be left out
 abbrev pub option : Text → Rule
@@ -33,10 +37,10 @@ with_options verb name = with_rule verb (record (option name) { action = Some Ap
 abbrev pub with_flag : App → Text → App
 with_flag verb name = with_rule verb (record (new_rule name) { long = Some name; action = Some SetTrue })
 
--- the verb of this name, which takes a file, the form of its output, the ticks to show, and the servers to draw
-abbrev pub in_a_form : Text → App
-in_a_form name =
-    let shown = with_option (with_option (with_option (on_file name) (codes "as")) (codes "from")) (codes "to") in
+-- a verb that also takes the form of its output, the ticks to show, and the servers to draw
+abbrev pub in_a_form : App → App
+in_a_form verb =
+    let shown = with_option (with_option (with_option verb (codes "as")) (codes "from")) (codes "to") in
     with_options shown (codes "server")
 
 -- a subcommand is required
@@ -51,19 +55,23 @@ with_version a = record a { top = record a.top { has_version = true } }
 abbrev pub bare_program : App
 bare_program = required (with_version (new_app (codes "cbsrun")))
 
--- the verb that checks a file
+-- the verb that checks files
 abbrev pub checking : App
-checking = with_flag (with_option (on_file (codes "check")) (codes "as")) (codes "strict")
+checking = with_flag (with_option (on_files (codes "check")) (codes "as")) (codes "strict")
 
 -- the verb that sizes a sketch
 abbrev pub sizing : App
 sizing = with_flag (on_file (codes "size")) (codes "all")
 
--- the verb that simulates a load
+-- the verb that simulates loads
 abbrev pub simulating : App
 simulating =
-    let seeded = with_option (in_a_form (codes "simulate")) (codes "seed") in
+    let seeded = with_option (in_a_form (on_files (codes "simulate"))) (codes "seed") in
     with_flag (with_option (with_option seeded (codes "until")) (codes "seeds")) (codes "strict")
+
+-- the verb that replays a task file
+abbrev pub replaying : App
+replaying = in_a_form (on_file (codes "replay"))
 
 -- the program with one more verb
 abbrev pub with_verb : App → App → App
@@ -73,7 +81,7 @@ with_verb program verb = with_subcommand program verb.top
 abbrev pub command_line : App
 command_line =
     let planning = with_verb (with_verb (with_verb bare_program checking) sizing) simulating in
-    with_verb (with_verb planning (in_a_form (codes "replay"))) (on_file (codes "serve"))
+    with_verb (with_verb planning replaying) (on_file (codes "serve"))
 
 -- the texts that the rows of a subcommand give for its options
 abbrev pub said_in : List Row → Said
@@ -93,17 +101,22 @@ said_in rows = record {
 abbrev pub texts_in : List Row → Text → List Text
 texts_in rows name = unwrap_or (all_of name rows) []
 
--- the subcommand that was found asks, with its rows, for the action, the file, and the names of the servers to draw
-abbrev pub IsAsked : Option (Text × List Row) → Asked → Type 0
-IsAsked found asked =
-    (rows : List Row) × (found ≡ Some (action_name asked.action, rows)) × Asks (said_in rows) asked.action
-    × (first_of (codes "FILE") rows ≡ Some (string_bytes asked.file)) × (map string_bytes asked.servers.items ≡ texts_in rows (codes "server"))
+-- what the rows of a subcommand ask for: the action, the files, and the names of the servers to draw
+pub record AsksBy (rows : List Row) (asked : Asked) : Type 0 where
+  pub action : Asks (said_in rows) asked.action
+  pub files : map string_bytes asked.files.items ≡ texts_in rows (codes "FILE")
+  pub enough : are_enough (said_in rows) (length (texts_in rows (codes "FILE"))) ≡ true
+  pub servers : map string_bytes asked.servers.items ≡ texts_in rows (codes "server")
 
--- the subcommand that the words name asks for the action and the file
+-- the subcommand that was found asks for it with its rows
+abbrev pub IsAsked : Option (Text × List Row) → Asked → Type 0
+IsAsked found asked = (rows : List Row) × (found ≡ Some (action_name asked.action, rows)) × AsksBy rows asked
+
+-- the subcommand that the words name asks for the action and the files
 abbrev pub Names : List Text → Asked → Type 0
 Names words asked = IsAsked (subcommand_of command_line words) asked
 
--- the command takes the words, and they name an action and a file
+-- the command takes the words, and they name an action and files
 pub record AreTaken (words : List Text) : Type 0 where
   pub taken : takes command_line words ≡ true
   pub asked : Asked

@@ -134,13 +134,14 @@ pub enum Action {
     Run(Verb),
 }
 
-/// The request of a command line: an action, and a file.
+/// The request of a command line: an action, and its files.
 #[derive(Drop)]
 pub struct Asked {
     /// The action.
     pub action: Action,
-    /// The name of the file.
-    pub file: String,
+    /// The names of the files, at least one, in the order of the words. A check and a report of a simulation may have
+    /// several, and each other action has one.
+    pub files: Vec<String>,
     /// The names of the servers that are to be drawn. Without one, all are.
     pub servers: Vec<String>,
 }

@@ -4,7 +4,7 @@ ghost use Rattle.std.specs.Prelude.{◌≡◌, codes, option_map, IfOk, None, So
 ghost use Rattle.cbsrun_command_line.specs.Actions.{drawing_name, form_name, sweep_form_name};
 ghost use Rattle.cbsrun_command_line.specs.Faults.{words_fault_number};
 ghost use Rattle.cbsrun_command_line.specs.Fits.{most_ticks};
-ghost use Rattle.cbsrun_command_line.specs.Options.{AnswersFit, AsksChanges, AsksDrawing, AsksFor, AsksPlainly, AsksSeeds, AsksTicks, Finds, after_dot, around_dot, IsNumber, IsTick, is_for_drawings, is_given, last_end, said, seeds_in, text_of};
+ghost use Rattle.cbsrun_command_line.specs.Options.{AnswersFit, AsksChanges, AsksDrawing, AsksFor, AsksPlainly, AsksSeeds, AsksTicks, Finds, after_dot, around_dot, IsNumber, IsTick, is_for_drawings, is_given, is_report, are_enough, last_end, said, seeds_in, text_of};
 
 use crate::actions::{
     Action, Changes, Drawing, Form, LAST_END, LoadReport, LoadSweep, MOST_RUNS, MOST_SEED, Seeds,
@@ -490,6 +490,43 @@ fn append_wrong_sweep(
     )
 }
 
+/// Returns whether the output in this form is a report, as text or as JSON. Without a form, it is the text.
+fn is_report(form: Option<&str>) -> bool
+    ensures { result ≡ is_report (text_of form.entry) }
+{
+    match form {
+        None => true,
+        Some(name) => name == "report" || name == "json",
+    }
+}
+
+/// Returns whether there is a file, and several only if the output is a report.
+pub(crate) fn are_enough(options: Options<'_>, files: usize) -> bool
+    ensures { result ≡ are_enough (said options.entry) files }
+{
+    files == 1 || files > 1 && is_report(options.form)
+}
+
+/// Returns the fault with this text, and below it how more is told of a command.
+fn usage(mut text: String, verb: &str) -> Result<WordsFault, AllocError>
+    ensures { IfOk result (λ w. words_fault_number w ≡ 1) }
+{
+    writeln!(text, "\nFor more information, try 'cbsrun {verb} --help'.")?;
+    Ok(WordsFault::Usage(text))
+}
+
+/// Returns the fault of a command line with several files, whose output can tell of one alone.
+pub(crate) fn too_many_files(alloc: Global, verb: &str) -> Result<WordsFault, AllocError>
+    ensures { IfOk result (λ w. words_fault_number w ≡ 1) }
+{
+    let mut text = String::new(alloc);
+    writeln!(
+        text,
+        "error: several files go with '--as report' and '--as json' alone"
+    )?;
+    usage(text, verb)
+}
+
 /// Returns the fault of a command line whose options ask for no action.
 pub(crate) fn wrong_options(
     alloc: Global,
@@ -508,6 +545,5 @@ pub(crate) fn wrong_options(
     } else {
         append_wrong_form(&mut text, verb, options)?;
     }
-    writeln!(text, "\nFor more information, try 'cbsrun {verb} --help'.")?;
-    Ok(WordsFault::Usage(text))
+    usage(text, verb)
 }

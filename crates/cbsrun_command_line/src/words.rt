@@ -4,12 +4,13 @@ ghost use Rattle.std.specs.Prelude.{◌≡◌, ◌≢◌, codes, IfOk, IfErr, fa
 ghost use Rattle.clap.specs.Words.{app_of, found_of, kind_of, rows_of, subcommand_rows_of};
 ghost use Rattle.clap.specs.declared.builder.command.Command.TheViews.{out-Command};
 ghost use Rattle.cbsrun_command_line.specs.Faults.{number_of, words_fault_number};
-ghost use Rattle.cbsrun_command_line.specs.Words.{command_line, checking, texts_in, simulating, sizing, on_file, in_a_form, with_option, with_options, with_flag, with_verb, bare_program, IsAsked, Names, AreTaken, TellsOf};
+ghost use Rattle.cbsrun_command_line.specs.Options.{said};
+ghost use Rattle.cbsrun_command_line.specs.Words.{command_line, checking, texts_in, said_in, simulating, sizing, replaying, on_file, on_files, in_a_form, with_option, with_options, with_flag, with_verb, bare_program, IsAsked, Names, AreTaken, TellsOf};
 ghost use Rattle.cbsrun_command_line.specs.declared.fault.WordsFault.TheVariants.{OutOfMemory};
 
 use crate::actions::Asked;
 use crate::fault::WordsFault;
-use crate::options::{Options, action_of, wrong_options};
+use crate::options::{Options, action_of, are_enough, too_many_files, wrong_options};
 use crate::texts::{
     ABOUT, ALL, CHECK, CHECKS, FILES, FROM, GUIDE, IN_TIME, PROMISED, REPLAY, REPORTS, SEED, SEEDS,
     SERVE, SERVER, SIMULATE, SIZE, TO, TRACES, UNTIL, VERSION,
@@ -17,6 +18,19 @@ use crate::texts::{
 use clap::error::ErrorKind;
 use clap::{Arg, ArgAction, ArgMatches, Command, Error};
 use std::alloc::{AllocError, Global};
+
+/// Returns the verb of this name, which takes one file or several.
+fn on_files<'a>(alloc: Global, name: &'a str, about: &'a str) -> Result<Command<'a>, AllocError>
+    ensures app { IfOk result (λ c. app_of c ≡ on_files name.now) }
+    ensures local { IfOk result (λ c. (out-Command c).has_globals ≡ false) }
+{
+    let files = Arg::new(alloc, "FILE")
+        .help("The files; - is standard input")
+        .required(true);
+    Command::new(alloc, name)
+        .about(about)
+        .arg(files.action(ArgAction::Append))
+}
 
 /// Returns the verb of this name, which takes a file.
 fn on_file<'a>(alloc: Global, name: &'a str, about: &'a str) -> Result<Command<'a>, AllocError>
@@ -76,29 +90,28 @@ fn with_flag<'a>(
     verb.arg(option.action(ArgAction::SetTrue))
 }
 
-/// Returns the verb of this name, which takes a file, the form of its output, the ticks to show, and the servers to draw.
+/// Returns a verb that also takes the form of its output, the ticks to show, and the servers to draw.
 fn in_a_form<'a>(
     alloc: Global,
-    name: &'a str,
-    about: &'a str,
+    verb: Command<'a>,
     forms: &'a str,
 ) -> Result<Command<'a>, AllocError>
-    ensures app { IfOk result (λ c. app_of c ≡ in_a_form name.now) }
+    requires { (out-Command verb).has_globals ≡ false }
+    ensures app { IfOk result (λ c. app_of c ≡ in_a_form (app_of verb.entry)) }
     ensures local { IfOk result (λ c. (out-Command c).has_globals ≡ false) }
 {
-    let verb = on_file(alloc, name, about)?;
     let verb = with_option(alloc, verb, "as", "FORMAT", forms)?;
     let verb = with_option(alloc, verb, "from", "TICK", FROM)?;
     let verb = with_option(alloc, verb, "to", "TICK", TO)?;
     with_options(alloc, verb, "server", "NAME", SERVER)
 }
 
-/// Returns the verb that checks a file.
+/// Returns the verb that checks files.
 fn checking<'a>(alloc: Global) -> Result<Command<'a>, AllocError>
     ensures app { IfOk result (λ c. app_of c ≡ checking) }
     ensures local { IfOk result (λ c. (out-Command c).has_globals ≡ false) }
 {
-    let verb = on_file(alloc, "check", CHECK)?;
+    let verb = on_files(alloc, "check", CHECK)?;
     let verb = with_option(alloc, verb, "as", "FORMAT", CHECKS)?;
     with_flag(alloc, verb, "strict", PROMISED)
 }
@@ -112,16 +125,24 @@ fn sizing<'a>(alloc: Global) -> Result<Command<'a>, AllocError>
     with_flag(alloc, verb, "all", ALL)
 }
 
-/// Returns the verb that simulates a load.
+/// Returns the verb that simulates loads.
 fn simulating<'a>(alloc: Global) -> Result<Command<'a>, AllocError>
     ensures app { IfOk result (λ c. app_of c ≡ simulating) }
     ensures local { IfOk result (λ c. (out-Command c).has_globals ≡ false) }
 {
-    let verb = in_a_form(alloc, "simulate", SIMULATE, REPORTS)?;
+    let verb = in_a_form(alloc, on_files(alloc, "simulate", SIMULATE)?, REPORTS)?;
     let verb = with_option(alloc, verb, "seed", "SEED", SEED)?;
     let verb = with_option(alloc, verb, "until", "TICK", UNTIL)?;
     let verb = with_option(alloc, verb, "seeds", "FIRST..LAST", SEEDS)?;
     with_flag(alloc, verb, "strict", IN_TIME)
+}
+
+/// Returns the verb that replays a task file.
+fn replaying<'a>(alloc: Global) -> Result<Command<'a>, AllocError>
+    ensures app { IfOk result (λ c. app_of c ≡ replaying) }
+    ensures local { IfOk result (λ c. (out-Command c).has_globals ≡ false) }
+{
+    in_a_form(alloc, on_file(alloc, "replay", REPLAY)?, TRACES)
 }
 
 /// Returns the program with one more verb.
@@ -151,7 +172,7 @@ fn command_line<'a>(alloc: Global) -> Result<Command<'a>, AllocError>
     let check = checking(alloc)?;
     let size = sizing(alloc)?;
     let simulate = simulating(alloc)?;
-    let replay = in_a_form(alloc, "replay", REPLAY, TRACES)?;
+    let replay = replaying(alloc)?;
     let serve = on_file(alloc, "serve", SERVE)?;
     let program = with_verb(bare_program(alloc), check)?;
     let program = with_verb(program, size)?;
@@ -194,6 +215,17 @@ fn incomplete(alloc: Global) -> Result<WordsFault, AllocError>
     Ok(WordsFault::Usage(text))
 }
 
+/// Returns the fault of a command line with so many files, which its output cannot tell of.
+fn wrong_files(alloc: Global, verb: &str, files: usize) -> Result<WordsFault, AllocError>
+    ensures { IfOk result (λ w. words_fault_number w ≡ 1) }
+{
+    if files == 0 {
+        incomplete(alloc)
+    } else {
+        too_many_files(alloc, verb)
+    }
+}
+
 /// Returns copies of texts. The only error is out of memory.
 fn copies_of(alloc: Global, texts: &[&str]) -> Result<Vec<String>, AllocError>
     ensures { IfOk result (λ copies. map string_bytes copies.items
@@ -217,8 +249,25 @@ fn texts_of(alloc: Global, matches: &ArgMatches, name: &str) -> Result<Vec<Strin
     }
 }
 
-/// Returns the request of the subcommand that `clap` found. Refuses if its options ask for no action, or if out of
-/// memory.
+/// Returns the texts of the options that a subcommand has.
+fn options_in<'a>(matches: &'a ArgMatches) -> Options<'a>
+    ensures { said result ≡ said_in (rows_of (found_of matches.now)) }
+{
+    Options {
+        form: matches.get_str("as"),
+        from: matches.get_str("from"),
+        to: matches.get_str("to"),
+        server: matches.get_str("server"),
+        seed: matches.get_str("seed"),
+        until: matches.get_str("until"),
+        seeds: matches.get_str("seeds"),
+        strict: matches.get_str("strict"),
+        all: matches.get_str("all"),
+    }
+}
+
+/// Returns the request of the subcommand that `clap` found. Refuses if its options ask for no action, if there are
+/// several files for an output that tells of one, or if out of memory.
 fn asked_in(alloc: Global, matches: &ArgMatches) -> Result<Asked, WordsFault>
     ensures ok { IfOk result (IsAsked (subcommand_rows_of matches.now)) }
     ensures refused { IfErr result (λ e. (asked : Asked)
@@ -228,37 +277,18 @@ fn asked_in(alloc: Global, matches: &ArgMatches) -> Result<Asked, WordsFault>
     let Some((name, inner)) = matches.subcommand() else {
         return Err(incomplete(alloc)?);
     };
-    let form = inner.get_str("as");
-    let from = inner.get_str("from");
-    let to = inner.get_str("to");
-    let server = inner.get_str("server");
-    let seed = inner.get_str("seed");
-    let until = inner.get_str("until");
-    let seeds = inner.get_str("seeds");
-    let strict = inner.get_str("strict");
-    let all = inner.get_str("all");
-    let options = Options {
-        form,
-        from,
-        to,
-        server,
-        seed,
-        until,
-        seeds,
-        strict,
-        all,
-    };
+    let options = options_in(inner);
     let Some(action) = action_of(name, options) else {
         return Err(wrong_options(alloc, name, options)?);
     };
-    let Some(file) = inner.get_str("FILE") else {
-        return Err(incomplete(alloc)?);
-    };
-    let file = String::from_str(alloc, file)?;
+    let files = texts_of(alloc, inner, "FILE")?;
+    if !are_enough(options, files.len()) {
+        return Err(wrong_files(alloc, name, files.len())?);
+    }
     let servers = texts_of(alloc, inner, "server")?;
     Ok(Asked {
         action,
-        file,
+        files,
         servers,
     })
 }
@@ -276,7 +306,7 @@ fn asked_by(alloc: Global, words: &[String]) -> Result<Asked, WordsFault>
     }
 }
 
-/// Returns the request of the words of a command line: first the program's name, then a verb and a file.
+/// Returns the request of the words of a command line: first the program's name, then a verb and a file, or several.
 ///
 /// Refuses with [`WordsFault::Usage`] if the words are wrong, and with [`WordsFault::OutOfMemory`] if out of memory.
 /// Refuses with [`WordsFault::Help`] if the words ask for the help or the version.

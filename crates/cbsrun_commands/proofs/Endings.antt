@@ -11,7 +11,7 @@ use Rattle.cbsrun_lines.specs.Writers.{Writer, IsUntouched}
 use Rattle.cbsrun_lines.specs.declared.run_error.RunError.{RunError}
 use Rattle.cbsrun_lines.specs.declared.run_error.RunError.TheVariants.{OutOfMemory, WriteFault, ClockEnd, Stalled}
 use Rattle.cbsrun_commands.specs.Commands.{Command, Does, EndsAs, EndsByAnswer, Tells, TellsAnswer, answered, closed_pipe, done, not_done}
-use Rattle.cbsrun_commands.specs.Commands.{nothing_shown, refused, status_done, stopped}
+use Rattle.cbsrun_commands.specs.Commands.{nothing_shown, refused, stopped}
 use Rattle.cbsrun_commands.specs.FaultLines.{Prints, StopsPrinting}
 use Rattle.cbsrun_commands.specs.declared.ending.Stopped.{Stopped}
 use Rattle.cbsrun_commands.specs.declared.ending.Stopped.TheVariants.{Unread, Ended, Run}

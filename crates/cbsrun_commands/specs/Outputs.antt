@@ -1,5 +1,5 @@
 -- What each command reads, and what it prints.
-use Rattle.std.specs.Prelude.{ℕ, Bool, true, false, if◌then◌else◌, List, [], ◌++◌, length, get_or, unwrap_or, Option, Some, None, Result, ◌≡◌, Ok, Err}
+use Rattle.std.specs.Prelude.{ℕ, Bool, true, false, if◌then◌else◌, List, [], ◌++◌, length, get_or, unwrap_or, Option, Result, ◌≡◌, Ok, Err}
 use Rattle.std.specs.List.{list_all}
 use Rattle.cbsrun_command_line.specs.declared.actions.Changes.{Changes}
 use Rattle.cbs_guarantee.specs.declared.source.NotPromised.{NotPromised}
@@ -30,16 +30,13 @@ use Rattle.cbsrun_runs.specs.Loads.{seen_in, run_of, IsKept}
 use Rattle.cbsrun_commands.specs.Commands.{Command, printing_command}
 use Rattle.cbsrun_tasks.specs.TaskFiles.{File}
 use Rattle.cbsrun_report_json.specs.Json.{report_json}
-use Rattle.cbsrun_runs.specs.Runs.{Shown, IsReportOf, IsPictureOf}
-use Rattle.cbsrun_runs.specs.Tasks.{run_of_tasks, clock_of_tasks}
+use Rattle.cbsrun_runs.specs.Runs.{Shown, IsReportOf}
+use Rattle.cbsrun_runs.specs.Tasks.{run_of_tasks}
 use Rattle.cbsrun_report_text.specs.Texts.{report_text}
 use Rattle.cbsrun_report_text.specs.declared.report.RunReport.{RunReport}
 use Rattle.cbsrun_command_line.specs.declared.actions.Form.{Form}
 use Rattle.cbsrun_command_line.specs.declared.actions.Form.TheVariants.{Report, Json}
 use Rattle.cbsrun_chart.specs.declared.picture.Picture.{Picture}
-use Rattle.cbsrun_window.specs.declared.window.Window.{Window}
-use Rattle.cbsrun_lines.specs.Writers.{IsUntouched}
-use Rattle.cbsrun_window.specs.Windows.{AnswersShown}
 use Rattle.cbsrun_svg.specs.Pictures.{svg_text}
 use Rattle.cbsrun_timeline.specs.Timelines.{timeline_text}
 use Rattle.cbsrun_perfetto.specs.Traces.{IsTrace}

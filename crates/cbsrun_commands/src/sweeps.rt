@@ -12,10 +12,10 @@ use crate::reading::load_file;
 use cbsrun_command_line::{LoadSweep, Seeds, SweepForm};
 use cbsrun_io::ByteOutput;
 use cbsrun_loads::Load;
-use cbsrun_runs::NoProgress;
 use cbsrun_sweep_texts::{sweep_csv, sweep_json, sweep_text};
 use cbsrun_sweeps::{Sweep, sweep_of};
 use std::alloc::{AllocError, Global};
+use std::thread::Threads;
 
 /// Returns how many runs there are with these seeds.
 fn runs_of(seeds: Seeds) -> u64
@@ -42,9 +42,11 @@ fn told_in(
     }
 }
 
-/// Simulates the load that the bytes spell once with each seed, and prints what the runs tell. Returns whether no job of
-/// any run was late or refused.
-fn sweep<O: ByteOutput>(
+/// Simulates the load that the bytes spell once with each seed, on so many threads, and prints what the runs tell. Returns
+/// whether no job of any run was late or refused.
+fn sweep<R: Threads + Sync, O: ByteOutput>(
+    rt: &R,
+    threads: usize,
     alloc: Global,
     memory: u64,
     asked: LoadSweep,
@@ -61,26 +63,22 @@ fn sweep<O: ByteOutput>(
 {
     let load = load_file(alloc, memory, asked.changes, bytes)?;
     let seeds = asked.seeds;
-    let (last, sweep) = sweep_of(
-        alloc,
-        name,
-        load,
-        seeds.first,
-        runs_of(seeds),
-        &mut NoProgress,
-    )?;
-    let text = told_in(alloc, asked.form, name, &last, &sweep)?;
+    let sweep = sweep_of(rt, threads, alloc, name, &load, seeds.first, runs_of(seeds))?;
+    let text = told_in(alloc, asked.form, name, &load, &sweep)?;
     print(&text, out)?;
     Ok(sweep.is_in_time())
 }
 
 /// Simulates the load that the bytes spell once with each of the seeds that are asked for, and prints what the runs tell of
 /// each server: in how many runs a job is late or was refused, how many jobs, and the greatest response with its seed.
-/// The text and the explanation of a fault name the file `name`. Returns the status.
+/// The runs are split among so many threads, and what is printed is the same for each number of threads. The text and the
+/// explanation of a fault name the file `name`. Returns the status.
 ///
 /// The statuses are those of [`report_bytes_within`](crate::report_bytes_within). Besides, if `asked` is strict, the
 /// status is 1 in the place of 0 if a job of a run is late or was refused.
-pub fn sweep_bytes_within<O: ByteOutput, E: ByteOutput>(
+pub fn sweep_bytes_within<R: Threads + Sync, O: ByteOutput, E: ByteOutput>(
+    rt: &R,
+    threads: usize,
     alloc: Global,
     memory: u64,
     asked: LoadSweep,
@@ -95,7 +93,7 @@ pub fn sweep_bytes_within<O: ByteOutput, E: ByteOutput>(
         asked.strict name.now bytes.now (O.closed out.new)
         (O.state out.old) (O.state out.new) (E.state err.old) (E.state err.new) result }
 {
-    let ended = sweep(alloc, memory, asked, name, bytes, out);
+    let ended = sweep(rt, threads, alloc, memory, asked, name, bytes, out);
     status_by_answer(
         alloc,
         memory,

@@ -21,4 +21,5 @@ pub use progress::{NoProgress, Progress};
 pub use replay::{Replay, clock_of};
 pub use report::report_of;
 pub use run::Run;
+pub use simulated::SeededLoad;
 pub use task_steps::show_steps;

@@ -1,6 +1,7 @@
 //! A load as a run: its jobs are simulated.
 
 ghost use Rattle.std.specs.Prelude.{true};
+ghost use Rattle.cbsrun_loads.specs.Loads.{with_seed};
 ghost use Rattle.cbsrun_runs.specs.Loads.{IsKept, run_of};
 
 use crate::load_steps::show_load;
@@ -60,9 +61,66 @@ impl Run for Load {
         view: &mut V,
         lent: &mut C,
     ) -> Result<u64, AllocError> {
-        show_load(alloc, self, view, lent)?;
-        // Reading the plan gives the proof what every plan keeps.
-        let _servers = Load::plan(self).len();
+        show_load(alloc, self, Load::seed(self), view, lent)?;
         Ok(Load::until(self))
+    }
+}
+
+/// A load that is simulated with a seed in the place of its own. Several threads can each run one of the same load.
+#[derive(Clone, Copy)]
+pub struct SeededLoad<'a> {
+    /// The load.
+    pub load: &'a Load,
+    /// The seed of the numbers that are drawn.
+    pub seed: u64,
+}
+
+impl Run for SeededLoad<'_> {
+    ghost run = { λ s. run_of (with_seed s.seed s.load.now) };
+
+    ghost lawful = { λ s. IsKept (with_seed s.seed s.load.now) };
+
+    ghost repeats = { true };
+
+    fn plan(&self) -> &Plan {
+        self.load.plan()
+    }
+
+    fn modes(&self) -> &Modes {
+        Run::modes(self.load)
+    }
+
+    fn backlog(&self) -> u64 {
+        self.load.backlog()
+    }
+
+    fn tick(&self) -> Option<u64> {
+        self.load.tick()
+    }
+
+    fn seed(&self) -> Option<u64> {
+        Some(self.seed)
+    }
+
+    fn name(&self, alloc: Global, server: u16) -> Result<String, AllocError> {
+        self.load.name(alloc, server)
+    }
+
+    fn within(&self, server: u16) -> Option<Range> {
+        self.load.within(server)
+    }
+
+    fn until(&self) -> Option<u64> {
+        Some(self.load.until())
+    }
+
+    fn show<C, V: View<C>>(
+        &mut self,
+        alloc: Global,
+        view: &mut V,
+        lent: &mut C,
+    ) -> Result<u64, AllocError> {
+        show_load(alloc, self.load, self.seed, view, lent)?;
+        Ok(self.load.until())
     }
 }

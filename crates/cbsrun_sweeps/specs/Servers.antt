@@ -1,5 +1,5 @@
 -- What many runs of a load tell of one server.
-use Rattle.std.specs.Prelude.{ℕ, Bool, ◌&&◌, ◌+◌, eqb, leb, ltb, if◌then◌else◌, Option, Some, None}
+use Rattle.std.specs.Prelude.{ℕ, Bool, ◌&&◌, ◌+◌, eqb, leb, ltb, if◌then◌else◌, Option, Some, None, option_map}
 use Rattle.cbsrun_figures.specs.Figures.{told}
 use Rattle.cbsrun_figures.specs.declared.figures.Figures.{Figures}
 use Rattle.cbsrun_figures.specs.declared.figures.Ranks.{Ranks}
@@ -14,32 +14,38 @@ late_jobs f = told (f.late_finished + f.late_unfinished)
 abbrev pub one_if : ℕ → ℕ
 one_if n = if ltb 0 n then 1 else 0
 
--- a response of a run with this seed
-abbrev pub worst_of : ℕ → ℕ → Worst
-worst_of seed response = record { response = response; seed = seed }
+-- the greatest response of the run with this seed
+abbrev pub worst_of : ℕ → Ranks → Worst
+worst_of seed ranks = record { response = ranks.greatest; seed = seed }
 
--- the greater one of the worst response so far, and of that of a run; of two that are equal the one so far
-abbrev pub greater : ℕ → ℕ → Option Worst → Worst
-greater seed response None = worst_of seed response
-greater seed response (Some w) = if leb response w.response then w else worst_of seed response
-
--- the worst response after one more run
-abbrev pub worse : ℕ → Option Ranks → Option Worst → Option Worst
-worse seed None worst = worst
-worse seed (Some ranks) worst = Some (greater seed ranks.greatest worst)
+-- the worse one of two responses, that of earlier runs and that of later ones; of two that are equal, the earlier one
+abbrev pub worse : Option Worst → Option Worst → Option Worst
+worse None later = later
+worse (Some earlier) None = Some earlier
+worse (Some earlier) (Some later) = Some (if leb later.response earlier.response then earlier else later)
 
 -- what no runs tell
 abbrev pub no_sweep : ServerSweep
 no_sweep = record { late_in = 0; late = 0; refused_in = 0; refused = 0; worst = None }
 
--- what is told after one more run, with this seed and these figures
-abbrev pub after : ℕ → Figures → ServerSweep → ServerSweep
-after seed f s = record {
-  late_in = told (s.late_in + one_if (late_jobs f));
-  late = told (s.late + late_jobs f);
-  refused_in = told (s.refused_in + one_if f.refused);
-  refused = told (s.refused + f.refused);
-  worst = worse seed f.responses s.worst;
+-- what one run tells, with this seed and these figures
+abbrev pub run_sweep : ℕ → Figures → ServerSweep
+run_sweep seed f = record {
+  late_in = one_if (late_jobs f);
+  late = late_jobs f;
+  refused_in = one_if f.refused;
+  refused = f.refused;
+  worst = option_map (worst_of seed) f.responses;
+}
+
+-- what earlier and later runs tell together
+abbrev pub joined : ServerSweep → ServerSweep → ServerSweep
+joined earlier later = record {
+  late_in = told (earlier.late_in + later.late_in);
+  late = told (earlier.late + later.late);
+  refused_in = told (earlier.refused_in + later.refused_in);
+  refused = told (earlier.refused + later.refused);
+  worst = worse earlier.worst later.worst;
 }
 
 -- no job of a server was late in any run, or refused

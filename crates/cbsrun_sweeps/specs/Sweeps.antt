@@ -6,7 +6,7 @@ use Rattle.cbsrun_report_text.specs.declared.report.RunReport.{RunReport}
 use Rattle.cbsrun_report_text.specs.declared.report.ServerReport.{ServerReport}
 use Rattle.cbsrun_runs.specs.Loads.{run_of}
 use Rattle.cbsrun_runs.specs.Runs.{IsReportOf}
-use Rattle.cbsrun_sweeps.specs.Servers.{after, is_in_time, no_sweep}
+use Rattle.cbsrun_sweeps.specs.Servers.{is_in_time, joined, no_sweep, run_sweep}
 use Rattle.cbsrun_sweeps.specs.declared.server.ServerSweep.{ServerSweep}
 use Rattle.cbsrun_sweeps.specs.declared.sweep.Sweep.{Sweep}
 
@@ -15,25 +15,30 @@ abbrev pub AreRuns : List ℕ → LoadFile → ℕ → List RunReport → Type 0
 AreRuns name f first [] = Unit {0}
 AreRuns name f first (r ∷ rs) = IsReportOf name (run_of (with_seed (first + length rs) f)) r × AreRuns name f first rs
 
--- what is told of a server after a run with this seed, by the server's report
-abbrev pub after_run : ℕ → Option ServerReport → ServerSweep → ServerSweep
-after_run seed None s = s
-after_run seed (Some r) s = after seed r.figures s
+-- what a run with this seed tells of a server, by the server's report
+abbrev pub told_by : ℕ → Option ServerReport → ServerSweep
+told_by seed None = no_sweep
+told_by seed (Some r) = run_sweep seed r.figures
 
--- what all runs tell of server s: the figures of one run after another
+-- what all runs tell of server s: that of one run after another, together
 abbrev pub swept : ℕ → ℕ → List RunReport → ServerSweep
 swept first s [] = no_sweep
-swept first s (r ∷ rs) = after_run (first + length rs) (slice_get r.servers.items s) (swept first s rs)
+swept first s (r ∷ rs) = joined (swept first s rs) (told_by (first + length rs) (slice_get r.servers.items s))
 
 -- nothing is told of so many servers
 pub record AreNone (n : ℕ) (sweeps : List ServerSweep) : Type 0 where
   pub count : length sweeps ≡ n
   pub each : (s : ℕ) → s < n → get_or sweeps s no_sweep ≡ no_sweep
 
--- each is what is told after one more run
+-- each is what is told together with one run more
 pub record AreAfter (seed : ℕ) (reports : List ServerReport) (old new : List ServerSweep) : Type 0 where
   pub count : length new ≡ length old
-  pub each : (s : ℕ) → s < length old → get_or new s no_sweep ≡ after_run seed (slice_get reports s) (get_or old s no_sweep)
+  pub each : (s : ℕ) → s < length old → get_or new s no_sweep ≡ joined (get_or old s no_sweep) (told_by seed (slice_get reports s))
+
+-- each is what earlier and later runs tell together
+pub record AreJoined (earlier later together : List ServerSweep) : Type 0 where
+  pub count : length together ≡ length earlier
+  pub each : (s : ℕ) → s < length earlier → get_or together s no_sweep ≡ joined (get_or earlier s no_sweep) (get_or later s no_sweep)
 
 -- this is told of the servers by some runs, of which there are so many
 pub record AreSwept (name : List ℕ) (f : LoadFile) (first runs : ℕ) (sweeps : List ServerSweep) : Type 0 where

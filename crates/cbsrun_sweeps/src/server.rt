@@ -1,9 +1,9 @@
 //! What many runs of a load tell of one server.
 
 ghost use Rattle.std.specs.Prelude.{◌≡◌};
-ghost use Rattle.cbsrun_sweeps.specs.Servers.{after, is_in_time, late_jobs, no_sweep, one_if, worse};
+ghost use Rattle.cbsrun_sweeps.specs.Servers.{is_in_time, joined, late_jobs, no_sweep, one_if, run_sweep, worse};
 
-use cbsrun_figures::{Figures, Ranks};
+use cbsrun_figures::Figures;
 
 /// The greatest response of a job, and the run that has it.
 #[derive(Clone, Copy, Debug, PartialEq, Eq)]
@@ -45,20 +45,17 @@ fn one_if(count: u64) -> u64
     if count > 0 { 1 } else { 0 }
 }
 
-/// Returns the greater one of the worst response so far and that of a run with this seed. Of two that are equal, the one
-/// so far stays.
-fn worse(seed: u64, responses: Option<Ranks>, worst: Option<Worst>) -> Option<Worst>
-    ensures { result ≡ worse seed responses worst }
+/// Returns the worse one of two responses, that of earlier runs and that of later ones. Of two that are equal, the
+/// earlier one.
+fn worse(earlier: Option<Worst>, later: Option<Worst>) -> Option<Worst>
+    ensures { result ≡ worse earlier later }
 {
-    let Some(ranks) = responses else {
-        return worst;
+    let Some(first) = earlier else {
+        return later;
     };
-    match worst {
-        Some(worst) if ranks.greatest <= worst.response => Some(worst),
-        _ => Some(Worst {
-            response: ranks.greatest,
-            seed,
-        }),
+    match later {
+        Some(later) if later.response > first.response => Some(later),
+        _ => earlier,
     }
 }
 
@@ -76,17 +73,33 @@ impl ServerSweep {
         }
     }
 
-    /// Returns what is told after one more run, with this seed and these figures of the server.
-    pub(crate) fn after(self, seed: u64, figures: &Figures) -> ServerSweep
-        ensures { result ≡ after seed figures.now self }
+    /// Returns what one run tells, with this seed and these figures of the server.
+    pub(crate) fn of_run(seed: u64, figures: &Figures) -> ServerSweep
+        ensures { result ≡ run_sweep seed figures.now }
     {
         let late = late_jobs(figures);
         ServerSweep {
-            late_in: self.late_in.saturating_add(one_if(late)),
-            late: self.late.saturating_add(late),
-            refused_in: self.refused_in.saturating_add(one_if(figures.refused)),
-            refused: self.refused.saturating_add(figures.refused),
-            worst: worse(seed, figures.responses, self.worst),
+            late_in: one_if(late),
+            late,
+            refused_in: one_if(figures.refused),
+            refused: figures.refused,
+            worst: figures.responses.map(|ranks| Worst {
+                response: ranks.greatest,
+                seed,
+            }),
+        }
+    }
+
+    /// Returns what these runs and later ones tell together.
+    pub(crate) fn joined(self, later: ServerSweep) -> ServerSweep
+        ensures { result ≡ joined self later }
+    {
+        ServerSweep {
+            late_in: self.late_in.saturating_add(later.late_in),
+            late: self.late.saturating_add(later.late),
+            refused_in: self.refused_in.saturating_add(later.refused_in),
+            refused: self.refused.saturating_add(later.refused),
+            worst: worse(self.worst, later.worst),
         }
     }
 

@@ -12,7 +12,7 @@ fn chart_of(rt: &impl Abort, alloc: Global, load: &Load, from: u64, to: u64) -> 
     let mut view = ChartView::new(alloc, window, load.plan())
         .ok()
         .expect(rt, "memory");
-    show_load(alloc, load, &mut view, &mut ())
+    show_load(alloc, load, load.seed(), &mut view, &mut ())
         .ok()
         .expect(rt, "memory");
     view.into_chart(alloc, load.until())

@@ -11,6 +11,7 @@ use cbsrun_commands::{
 };
 use std::alloc::Global;
 use std::process::Abort;
+use std::thread::Threads;
 
 /// Ample memory for a file.
 const MEMORY: u64 = 1 << 30;
@@ -98,7 +99,14 @@ const SWEEP: LoadSweep = LoadSweep {
 };
 
 /// Prints what is asked of a file to `out`. The file may need `memory` bytes of memory. Returns the outcome.
-fn printed(alloc: Global, asked: Asked, memory: u64, file: &str, mut out: Memory) -> Outcome
+fn printed<R: Threads + Sync>(
+    rt: &R,
+    alloc: Global,
+    asked: Asked,
+    memory: u64,
+    file: &str,
+    mut out: Memory,
+) -> Outcome
     requires { out.failed ≡ 0 }
 {
     let mut err = Memory::ample(alloc);
@@ -138,7 +146,7 @@ fn printed(alloc: Global, asked: Asked, memory: u64, file: &str, mut out: Memory
             &mut err,
         ),
         Asked::SweepLoad => {
-            sweep_bytes_within(alloc, memory, SWEEP, name, bytes, &mut out, &mut err)
+            sweep_bytes_within(rt, 2, alloc, memory, SWEEP, name, bytes, &mut out, &mut err)
         }
         Asked::ReportTasks(form) => {
             report_bytes_within(alloc, memory, form, name, bytes, &mut out, &mut err)
@@ -287,9 +295,15 @@ static DRAWN: [(Drawing, [&str; 3]); 3] = [
 ];
 
 /// Ends the test unless what is printed begins, goes on and ends with these parts.
-fn is_printed(rt: &impl Abort, alloc: Global, asked: Asked, file: &str, parts: [&str; 3]) {
+fn is_printed<R: Abort + Threads + Sync>(
+    rt: &R,
+    alloc: Global,
+    asked: Asked,
+    file: &str,
+    parts: [&str; 3],
+) {
     let [start, part, end] = parts;
-    let outcome = printed(alloc, asked, MEMORY, file, Memory::ample(alloc));
+    let outcome = printed(rt, alloc, asked, MEMORY, file, Memory::ample(alloc));
     same(rt, "status", outcome.status, 0);
     let text = str::from_utf8(&outcome.out.taken).unwrap_or("");
     same(rt, text, text.starts_with(start), true);
@@ -316,12 +330,18 @@ fn a_run_is_drawn_up_to_its_end(rt: HostRuntime) {
 
 /// Ends the test unless this prefix of five bytes is what a writer has that takes no more. If it is a closed pipe,
 /// nothing is told; else the fault is.
-fn is_cut(rt: &impl Abort, alloc: Global, asked: Asked, file: &str, prefix: &str) {
+fn is_cut<R: Abort + Threads + Sync>(
+    rt: &R,
+    alloc: Global,
+    asked: Asked,
+    file: &str,
+    prefix: &str,
+) {
     let small = Memory::new(alloc, 5, usize::MAX);
     let fault = "cbsrun: run fault 2 WriteFault\n";
-    printed(alloc, asked, MEMORY, file, small).leaves(rt, prefix, 4, prefix, fault);
+    printed(rt, alloc, asked, MEMORY, file, small).leaves(rt, prefix, 4, prefix, fault);
     let pipe = Memory::pipe(alloc, 5);
-    printed(alloc, asked, MEMORY, file, pipe).leaves(rt, prefix, 0, prefix, "");
+    printed(rt, alloc, asked, MEMORY, file, pipe).leaves(rt, prefix, 0, prefix, "");
 }
 
 #[test]
@@ -373,18 +393,24 @@ fn a_strict_answer_is_not_told_by_a_closed_pipe(rt: HostRuntime) {
     ] {
         let pipe = Memory::pipe(alloc, 5);
         let fault = "cbsrun: run fault 2 WriteFault\n";
-        printed(alloc, *asked, MEMORY, LOAD, pipe).leaves(&rt, prefix, 4, prefix, fault);
+        printed(&rt, alloc, *asked, MEMORY, LOAD, pipe).leaves(&rt, prefix, 4, prefix, fault);
     }
 }
 
 /// Ends the test unless a faulty file is explained so. The file is read in pieces, so its fault is told within any bound.
 /// For the explanation, and for a file with a dotted key, the document is needed.
-fn is_explained(rt: &impl Abort, alloc: Global, asked: Asked, file: &str, explained: &str) {
+fn is_explained<R: Abort + Threads + Sync>(
+    rt: &R,
+    alloc: Global,
+    asked: Asked,
+    file: &str,
+    explained: &str,
+) {
     same(rt, explained, explained.starts_with(FAULT), true);
-    printed(alloc, asked, MEMORY, file, Memory::new(alloc, 0, 1)).leaves(
+    printed(rt, alloc, asked, MEMORY, file, Memory::new(alloc, 0, 1)).leaves(
         rt, explained, 3, "", explained,
     );
-    printed(alloc, asked, 10, file, Memory::new(alloc, 0, 1)).leaves(
+    printed(rt, alloc, asked, 10, file, Memory::new(alloc, 0, 1)).leaves(
         rt,
         "unexplained",
         3,
@@ -392,7 +418,7 @@ fn is_explained(rt: &impl Abort, alloc: Global, asked: Asked, file: &str, explai
         FAULT,
     );
     let no_memory = "cbsrun: file fault 7 OutOfMemory at top\n";
-    printed(alloc, asked, 10, "a.b = 1\n", Memory::new(alloc, 0, 1)).leaves(
+    printed(rt, alloc, asked, 10, "a.b = 1\n", Memory::new(alloc, 0, 1)).leaves(
         rt, no_memory, 3, "", no_memory,
     );
 }

@@ -19,15 +19,16 @@ fn words(rt: &impl Abort, alloc: Global, line: &str) -> Vec<String> {
     words
 }
 
-/// Ends the test unless a command line asks for this action and this file.
+/// Ends the test unless a command line asks for this action and this one file.
 fn asks(rt: &impl Abort, alloc: Global, line: &str, action: Action, file: &str) {
     let asked = read_words(alloc, words(rt, alloc, line))
         .ok()
         .expect(rt, line);
+    same(rt, line, asked.files.len(), 1);
     same(
         rt,
         line,
-        (asked.action, asked.file.as_str()),
+        (asked.action, asked.files[0].as_str()),
         (action, file),
     );
 }
@@ -95,6 +96,42 @@ fn a_verb_and_a_file_are_wanted(rt: HostRuntime) {
     asks(&rt, alloc, "cbsrun check -- -V", CHECK, "-V");
     refuses(&rt, alloc, "", 1, "Usage");
     refuses(&rt, alloc, "cbsrun --help", 2, "Help");
+}
+
+/// Command lines with three files.
+const THREE: [&str; 4] = [
+    "cbsrun check a.toml b.toml c.toml",
+    "cbsrun check a.toml --as json b.toml --strict c.toml",
+    "cbsrun simulate a.toml b.toml --as report -- c.toml",
+    "cbsrun simulate --seeds 1..9 a.toml b.toml c.toml --as json",
+];
+
+/// Command lines with two files, whose output tells of one.
+const TOO_MANY: [&str; 7] = [
+    "cbsrun simulate --as lines a.toml b.toml",
+    "cbsrun simulate --as csv a.toml b.toml",
+    "cbsrun simulate --as svg a.toml b.toml",
+    "cbsrun simulate --seeds 1..9 --as csv a.toml b.toml",
+    "cbsrun replay a.toml b.toml",
+    "cbsrun serve a.toml b.toml",
+    "cbsrun size a.toml b.toml",
+];
+
+#[test]
+fn a_report_takes_several_files(rt: HostRuntime) {
+    let alloc = rt.alloc();
+    for line in THREE {
+        let asked = read_words(alloc, words(&rt, alloc, line))
+            .ok()
+            .expect(&rt, line);
+        same(&rt, line, asked.files.len(), 3);
+        same(&rt, line, asked.files[0].as_str(), "a.toml");
+        same(&rt, line, asked.files[1].as_str(), "b.toml");
+        same(&rt, line, asked.files[2].as_str(), "c.toml");
+    }
+    for line in TOO_MANY {
+        refuses(&rt, alloc, line, 1, "Usage");
+    }
 }
 
 /// Command lines with a form, and what they ask for.

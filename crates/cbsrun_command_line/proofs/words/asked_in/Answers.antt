@@ -1,9 +1,10 @@
-use Rattle.std.proofs.Common.{◌≡◌, ◌∙◌, ap, sym, subst, refl, codes, Option, Some, None, List, string_bytes}
+use Rattle.std.proofs.Common.{◌≡◌, ◌∙◌, ap, sym, subst, refl, rules, Bool, length, map, Option, Some, None, List, string_bytes, ℕ}
 use Rattle.std.specs.Prelude.{option_map}
-use Rattle.clap.specs.Words.{Row, Text, subcommand_rows_of, rows_of, found_of, first_of}
-use Rattle.clap.proofs.WalkLemmas.{first_value-rows}
+use Rattle.std.proofs.lemmas.Bool.{true≢false}
+use Rattle.std.proofs.lemmas.List.{length-map}
+use Rattle.clap.specs.Words.{Row, Text, subcommand_rows_of, rows_of, found_of}
 use Rattle.cbsrun_command_line.specs.Actions.{action_name}
-use Rattle.cbsrun_command_line.specs.Options.{Said, Asks}
+use Rattle.cbsrun_command_line.specs.Options.{Said, Asks, are_enough}
 use Rattle.cbsrun_command_line.specs.Words.{said_in}
 use Rattle.cbsrun_command_line.specs.declared.actions.Action.{Action}
 use Rattle.cbsrun_command_line.proofs.words.asked_in.Goals as goal
@@ -30,30 +31,28 @@ not_both o p q = absurd cc
 same_form : (a : Action) (r s : Said) → r ≡ s → Asks r a → Asks s a
 same_form a r s e asks = subst (λ (x : Said). Asks x a) e asks
 
--- nine options are what the rows give for them
-said_is : (rows : List Row) (form from to server seed until seeds strict all : Option Text) → form ≡ first_of (codes "as") rows → from ≡ first_of (codes "from") rows
-    → to ≡ first_of (codes "to") rows → server ≡ first_of (codes "server") rows → seed ≡ first_of (codes "seed") rows → until ≡ first_of (codes "until") rows → seeds ≡ first_of (codes "seeds") rows
-    → strict ≡ first_of (codes "strict") rows
-    → all ≡ first_of (codes "all") rows
-    → record { form = form; from = from; to = to; server = server; seed = seed; until = until; seeds = seeds; strict = strict; all = all } ≡ said_in rows
-said_is rows form from to server seed until seeds strict all a b c d e f g h i = rw (a, b, c, d, e, f, g, h, i) refl
+-- whether there are enough files, by the rows
+enough_in : {A : Type 0} (text : A → Text) (s r : Said) (n : ℕ) (files : List A) (texts : List Text) (enough : Bool) → s ≡ r → map text files ≡ texts
+    → n ≡ length files → enough ≡ are_enough s n → are_enough r (length texts) ≡ enough
+enough_in text s r n files texts enough p q e h = rw (← p, ← q, length-map files text, ← e) (sym h)
 
 pub returns-clause-ok : goal.returns-clause-ok
 returns-clause-ok c =
-    let inner = c.in-Some.inner.now in
-    let entered : subcommand_rows_of c.args.matches.now ≡ Some (c.in-Some.name.now, rows_of (found_of inner)) =
+    let rows = rows_of (found_of c.in-Some.inner.now) in
+    let entered : subcommand_rows_of c.args.matches.now ≡ Some (c.in-Some.name.now, rows) =
     both_are _ _ _ _ _ (rw c.in-Some.is at c.subcommand.ensures.name) (rw c.in-Some.is at c.subcommand.ensures.rows) in
-    let named : Some (c.in-Some.name.now, rows_of (found_of inner)) ≡ Some (action_name c.in-Some-action_of.action, rows_of (found_of inner)) =
-    ap (λ (t : Text). Some (t, rows_of (found_of inner))) c.in-Some-action_of.ensures.0 in
-    let said = said_is (rows_of (found_of inner)) _ _ _ _ _ _ _ _ _ (c.get_str-form.ensures ∙ first_value-rows (found_of inner) (codes "as"))
-    (c.get_str-from.ensures ∙ first_value-rows (found_of inner) (codes "from")) (c.get_str-to.ensures ∙ first_value-rows (found_of inner) (codes "to"))
-    (c.get_str-server.ensures ∙ first_value-rows (found_of inner) (codes "server")) (c.get_str-seed.ensures ∙ first_value-rows (found_of inner) (codes "seed")) (c.get_str-until.ensures ∙ first_value-rows (found_of inner) (codes "until"))
-    (c.get_str-seeds.ensures ∙ first_value-rows (found_of inner) (codes "seeds"))
-    (c.get_str-strict.ensures ∙ first_value-rows (found_of inner) (codes "strict")) (c.get_str-all.ensures ∙ first_value-rows (found_of inner) (codes "all")) in
-    let form = same_form c.in-Some-action_of.action _ _ said c.in-Some-action_of.ensures.1 in
-    let file : first_of (codes "FILE") (rows_of (found_of inner)) ≡ Some (string_bytes c.in_ok-file.file) =
-    sym (first_value-rows (found_of inner) (codes "FILE")) ∙ (sym (rw c.in-Some-get_str.is at c.get_str.ensures) ∙ ap Some (sym c.in_ok-file.ensures.ok)) in
-    (rows_of (found_of inner), entered ∙ named, form, file, c.in_ok-servers.ensures)
+    let named : Some (c.in-Some.name.now, rows) ≡ Some (action_name c.in-Some-action_of.action, rows) =
+    ap (λ (t : Text). Some (t, rows)) c.in-Some-action_of.ensures.0 in (
+      rows,
+      entered ∙ named,
+      record {
+        action = same_form c.in-Some-action_of.action _ _ c.options_in-options.ensures c.in-Some-action_of.ensures.1;
+        files = c.in_ok-files.ensures;
+        enough = enough_in string_bytes _ _ c.len.result c.in_ok-files.files.items _ _ c.options_in-options.ensures c.in_ok-files.ensures (search rules) c.are_enough.ensures
+            ∙ c.if-not-are_enough.false;
+        servers = c.in_ok-servers.ensures;
+      },
+    )
 
 pub returns-in_default-action_of-clause-refused : goal.returns-in_default-action_of-clause-refused
 returns-in_default-action_of-clause-refused c = λ asked named.
@@ -61,22 +60,17 @@ returns-in_default-action_of-clause-refused c = λ asked named.
     let entered : subcommand_rows_of c.args.matches.now ≡ Some (c.in-Some.name.now, rows_of (found_of inner)) =
     both_are _ _ _ _ _ (rw c.in-Some.is at c.subcommand.ensures.name) (rw c.in-Some.is at c.subcommand.ensures.rows) in
     let same : rows_of (found_of inner) ≡ named.0 = same_rows _ _ (sym entered ∙ named.1) in
-    let said = said_is (rows_of (found_of inner)) _ _ _ _ _ _ _ _ _ (c.get_str-form.ensures ∙ first_value-rows (found_of inner) (codes "as"))
-    (c.get_str-from.ensures ∙ first_value-rows (found_of inner) (codes "from")) (c.get_str-to.ensures ∙ first_value-rows (found_of inner) (codes "to"))
-    (c.get_str-server.ensures ∙ first_value-rows (found_of inner) (codes "server")) (c.get_str-seed.ensures ∙ first_value-rows (found_of inner) (codes "seed")) (c.get_str-until.ensures ∙ first_value-rows (found_of inner) (codes "until"))
-    (c.get_str-seeds.ensures ∙ first_value-rows (found_of inner) (codes "seeds"))
-    (c.get_str-strict.ensures ∙ first_value-rows (found_of inner) (codes "strict")) (c.get_str-all.ensures ∙ first_value-rows (found_of inner) (codes "all")) in
     absurd (c.in_default-action_of.ensures asked.action (
       same_name _ _ (sym entered ∙ named.1),
-      same_form asked.action _ _ (ap said_in (sym same) ∙ sym said) named.2,
+      same_form asked.action _ _ (ap said_in (sym same) ∙ sym c.options_in-options.ensures) named.2.action,
     ))
 
-pub returns-in_default-get_str-clause-refused : goal.returns-in_default-get_str-clause-refused
-returns-in_default-get_str-clause-refused c = λ asked named.
-    let inner = c.in-Some.inner.now in
-    let entered : subcommand_rows_of c.args.matches.now ≡ Some (c.in-Some.name.now, rows_of (found_of inner)) =
+pub returns-then-not-are_enough-clause-refused : goal.returns-then-not-are_enough-clause-refused
+returns-then-not-are_enough-clause-refused c = λ asked named.
+    let rows = rows_of (found_of c.in-Some.inner.now) in
+    let entered : subcommand_rows_of c.args.matches.now ≡ Some (c.in-Some.name.now, rows) =
     both_are _ _ _ _ _ (rw c.in-Some.is at c.subcommand.ensures.name) (rw c.in-Some.is at c.subcommand.ensures.rows) in
-    let same : rows_of (found_of inner) ≡ named.0 = same_rows _ _ (sym entered ∙ named.1) in
-    let none : first_of (codes "FILE") (rows_of (found_of inner)) ≡ None =
-    sym (first_value-rows (found_of inner) (codes "FILE")) ∙ sym (rw c.in_default-get_str.is at c.get_str.ensures) in
-    absurd (not_both _ (sym (ap (first_of (codes "FILE")) same) ∙ none) named.3)
+    let same : rows ≡ named.0 = same_rows _ _ (sym entered ∙ named.1) in
+    let enough = enough_in string_bytes _ _ c.len.result c.in_ok-files.files.items _ _ c.options_in-options.ensures c.in_ok-files.ensures (search rules) c.are_enough.ensures
+    ∙ c.if-not-are_enough.true in
+    absurd (true≢false (sym (rw (← same) at named.2.enough) ∙ enough))

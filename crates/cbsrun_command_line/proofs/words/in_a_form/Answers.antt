@@ -25,9 +25,3 @@ returns-clause-app c = grind (arith, common_steps)
 
 pub returns-clause-local : goal.returns-clause-local
 returns-clause-local c = grind (arith, common_steps)
-
-pub returns-in_err-verb-4-clause-app : goal.returns-in_err-verb-4-clause-app
-returns-in_err-verb-4-clause-app c = grind (arith, common_steps)
-
-pub returns-in_err-verb-4-clause-local : goal.returns-in_err-verb-4-clause-local
-returns-in_err-verb-4-clause-local c = grind (arith, common_steps)
