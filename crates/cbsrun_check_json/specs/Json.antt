@@ -98,6 +98,7 @@ server_terms name mode rate greatest = with_members (
 unfoldable pub with_figures : Option ℕ → ServerLoad → Members → Members
 with_figures within l ms = with_members (
     (codes "asked", pair_if (asked_pair l.asked))
+    ∷ (codes "asked_once", whole l.once)
     ∷ (codes "within", whole_if within)
     ∷ (codes "finished_within", whole_if (result_ok l.promised))
     ∷ (codes "in_time_always", boolean (needs_none l.remedy))

@@ -131,6 +131,7 @@ pub(crate) fn put_figures(
         members,
         &[
             ("asked", Scalar::PairIf(asked_pair(load.asked))),
+            ("asked_once", Scalar::Whole(load.once)),
             ("within", Scalar::WholeIf(within)),
             ("finished_within", Scalar::WholeIf(load.promised.ok())),
             ("in_time_always", Scalar::Is(in_time)),

@@ -1,5 +1,5 @@
 -- Notes on servers whose jobs are not promised in time: why, and what would do.
-use Rattle.std.specs.Prelude.{ℕ, ◌≤◌, ◌<◌, List, [], ◌∷◌, ◌++◌, codes, decimal, flat_map, get_or, length, Option, Some, None, Result, Ok, Err}
+use Rattle.std.specs.Prelude.{ℕ, eqb, if◌then◌else◌, ◌≤◌, ◌<◌, List, [], ◌∷◌, ◌++◌, codes, decimal, flat_map, get_or, length, Option, Some, None, Result, Ok, Err}
 use Rattle.std.specs.List.{range_with_len}
 use Rattle.cbs_rate.specs.Limits.{greatest_common_multiple}
 use Rattle.cbs_rate.specs.Rate.{Rate}
@@ -43,21 +43,26 @@ unfoldable pub reason_text : Option ℕ → List ℕ → ℕ → Option ℕ → 
 reason_text tick name backlog within promised =
     codes "note: " ++ name ++ codes " is not promised: " ++ why_text tick backlog within promised ++ codes "\n"
 
--- what the sources may ask for, and what the server has
-unfoldable pub demand_text : Rate → Asked → List ℕ
-demand_text rate a =
-    codes "      it may ask for " ++ fraction_text a.ticks a.of ++ codes " of the time, and has " ++ fraction_text rate.budget rate.period ++ codes "\n"
+-- what is asked for once, if there is something
+unfoldable pub once_text : Option ℕ → ℕ → List ℕ
+once_text tick ticks = if eqb ticks 0 then [] else codes ", and for " ++ ticks_text tick ticks ++ codes " once"
+
+-- what the sources may ask for, also once, and what the server has
+unfoldable pub demand_text : Option ℕ → Rate → Asked → ℕ → List ℕ
+demand_text tick rate a once =
+    codes "      it may ask for " ++ fraction_text a.ticks a.of ++ codes " of the time" ++ once_text tick once
+    ++ codes ", and has " ++ fraction_text rate.budget rate.period ++ codes "\n"
 
 -- the same, if they may ask for too much, and if it is summed
-abbrev pub asked_text : Rate → Result ℕ NotPromised → Option Asked → List ℕ
-asked_text rate (Err why.AsksTooMuch) (Some a) = demand_text rate a
-asked_text rate _ _ = []
+abbrev pub asked_text : Option ℕ → Rate → Result ℕ NotPromised → Option Asked → ℕ → List ℕ
+asked_text tick rate (Err why.AsksTooMuch) (Some a) once = demand_text tick rate a once
+asked_text tick rate _ _ once = []
 
 -- the note of a server, if a remedy is needed
 unfoldable pub note_text : Option ℕ → List ℕ → Rate → ℕ → Option ℕ → ServerLoad → List ℕ
 note_text tick name rate backlog within l = elim l.remedy [
   | None ↦ []
-  | Some m ↦ reason_text tick name backlog within l.promised ++ asked_text rate l.promised l.asked ++ remedy_text tick m l.kept l.room
+  | Some m ↦ reason_text tick name backlog within l.promised ++ asked_text tick rate l.promised l.asked l.once ++ remedy_text tick m l.kept l.room
 ]
 
 -- the note of server s

@@ -4,7 +4,7 @@
 ghost use Rattle.std.specs.Prelude.{◌≡◌, ◌++◌, ◌<◌, ◌≤◌, length, Some, IfSome, IfOk, OnOk, string_bytes};
 ghost use Rattle.cbsrun_sizing.specs.ServerLoads.{AreServerLoads};
 ghost use Rattle.cbsrun_check_text.specs.Tables.{optional_text};
-ghost use Rattle.cbsrun_check_text.specs.Notes.{IsSummed, late_text, unfinished_text, why_text, reason_text, demand_text, asked_text, note_text, notes_text, set_off};
+ghost use Rattle.cbsrun_check_text.specs.Notes.{IsSummed, late_text, unfinished_text, why_text, reason_text, demand_text, asked_text, once_text, note_text, notes_text, set_off};
 
 use crate::fractions::append_fraction;
 use cbs_guarantee::NotPromised;
@@ -91,12 +91,31 @@ pub fn append_why(
     }
 }
 
-/// Appends what the sources may ask for, and what the server has.
+/// Appends what is asked for once, if there is something.
+#[tactic(auto, unfolding(crate::specs::Notes::once_text))]
+fn append_once(text: &mut String, tick: Option<u64>, ticks: u64) -> Result<(), AllocError>
+    ensures { OnOk result (string_bytes text.new ≡ string_bytes text.old ++ once_text tick ticks) }
+{
+    if ticks == 0 {
+        return Ok(());
+    }
+    text.push_str(", and for ")?;
+    append_ticks(text, tick, ticks)?;
+    text.push_str(" once")
+}
+
+/// Appends what the sources may ask for, also once, and what the server has.
 #[tactic(auto, unfolding(crate::specs::Notes::demand_text))]
-fn append_demand(text: &mut String, rate: Reservation, asked: Asked) -> Result<(), AllocError>
+fn append_demand(
+    text: &mut String,
+    tick: Option<u64>,
+    rate: Reservation,
+    asked: Asked,
+    once: u64,
+) -> Result<(), AllocError>
     requires { IsSummed asked }
     ensures { OnOk result (string_bytes text.new ≡ string_bytes text.old
-        ++ demand_text rate asked) }
+        ++ demand_text tick rate asked once) }
 {
     append_fraction(
         text,
@@ -104,9 +123,11 @@ fn append_demand(text: &mut String, rate: Reservation, asked: Asked) -> Result<(
         asked.ticks,
         u128::from(asked.of),
     )?;
+    text.push_str(" of the time")?;
+    append_once(text, tick, once)?;
     append_fraction(
         text,
-        " of the time, and has ",
+        ", and has ",
         u128::from(rate.budget()),
         u128::from(rate.period()),
     )?;
@@ -116,16 +137,18 @@ fn append_demand(text: &mut String, rate: Reservation, asked: Asked) -> Result<(
 /// Appends what the sources may ask for, if that is too much, and if it is summed.
 fn append_asked(
     text: &mut String,
+    tick: Option<u64>,
     rate: Reservation,
-    promised: Result<u64, NotPromised>,
-    asked: Option<Asked>,
+    load: ServerLoad,
 ) -> Result<(), AllocError>
-    requires { IfSome asked IsSummed }
+    requires { IfSome load.asked IsSummed }
     ensures { OnOk result (string_bytes text.new ≡ string_bytes text.old
-        ++ asked_text rate promised asked) }
+        ++ asked_text tick rate load.promised load.asked load.once) }
 {
-    match (promised, asked) {
-        (Err(NotPromised::AsksTooMuch), Some(asked)) => append_demand(text, rate, asked),
+    match (load.promised, load.asked) {
+        (Err(NotPromised::AsksTooMuch), Some(asked)) => {
+            append_demand(text, tick, rate, asked, load.once)
+        }
         _ => Ok(()),
     }
 }
@@ -170,7 +193,7 @@ fn append_note(
         return Ok(());
     };
     append_reason(text, tick, name, backlog, within, load.promised)?;
-    append_asked(text, rate, load.promised, load.asked)?;
+    append_asked(text, tick, rate, load)?;
     append_remedy(text, tick, remedy, load.kept, load.room)
 }
 

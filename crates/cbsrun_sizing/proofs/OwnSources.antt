@@ -1,5 +1,5 @@
 -- The sources of one server: their places among its streams, and what they may overrun.
-use Rattle.std.proofs.Common.{◌≡◌, ◌≢◌, ℕ, zero, suc, ◌+◌, ◌≤◌, ◌<◌, true, false, eqb, List, [], ◌∷◌, length, map, take, get_or, arith, refl, sym, ap, ◌∙◌, inl}
+use Rattle.std.proofs.Common.{◌≡◌, ◌≢◌, Bool, ℕ, zero, suc, ◌+◌, ◌≤◌, ◌<◌, true, false, eqb, List, [], ◌∷◌, length, map, take, get_or, arith, refl, sym, ap, ◌∙◌, inl}
 use Rattle.std.proofs.Common.{inr, Some}
 use Rattle.std.specs.Prelude.{slice_get, option_map, max, if◌then◌else◌}
 use Rattle.std.specs.List.{All, AllByRecursion, filter, fold}
@@ -218,13 +218,14 @@ module _ (s : ℕ) where
               rw n (λ same. absurd (ne same), numbered released of place k rs a b)
         ]
 
--- a job of a source of a load takes at most so many ticks
-pub own_ticks : (n s : ℕ) (sources : List SourceTerms) → All (IsSource n) sources → All (λ source. ticks_of source ≤ most_ticks) (sources_of s sources)
-own_ticks n s [] all = All-nil (λ source. ticks_of source ≤ most_ticks)
-own_ticks n s (t ∷ ts) all =
-    let rest = own_ticks n s ts (λ k d lt. all (suc k) d (omega arith)) in
-    elim (cases_Bool (eqb t.server s)) [
-      | inl y ↦ rw y (All-cons (λ source. ticks_of source ≤ most_ticks) (at_most t) (sources_of s ts) (few_ticks t (all 0 t (omega arith))) rest)
+-- a job of a source of a load takes at most so many ticks, whichever sources are picked
+pub own_ticks : (n : ℕ) (picks : SourceTerms → Bool) (sources : List SourceTerms) → All (IsSource n) sources
+    → All (λ source. ticks_of source ≤ most_ticks) (map at_most (filter picks sources))
+own_ticks n picks [] all = All-nil (λ source. ticks_of source ≤ most_ticks)
+own_ticks n picks (t ∷ ts) all =
+    let rest = own_ticks n picks ts (λ k d lt. all (suc k) d (omega arith)) in
+    elim (cases_Bool (picks t)) [
+      | inl y ↦ rw y (All-cons (λ source. ticks_of source ≤ most_ticks) (at_most t) (map at_most (filter picks ts)) (few_ticks t (all 0 t (omega arith))) rest)
       | inr f ↦ rw f rest
     ]
   where

@@ -1,11 +1,11 @@
 -- The demand of the sources of each server of a load, and within how many ticks their jobs are finished.
 use Rattle.std.specs.Prelude.{◌≡◌, ℕ, ◌+◌, ◌-◌, ◌<◌, ◌&&◌, Bool, false, not, eqb, if◌then◌else◌, min, max, List, length, map, get_or, MatchOption, MatchResult, Option, Some, None, Ok, All, ◌≤◌}
-use Rattle.std.specs.List.{sum, filter, fold, list_any, range_with_len}
+use Rattle.std.specs.List.{sum, sum_by, filter, fold, list_any, range_with_len}
 use Rattle.cbs_rate.specs.Limits.{greatest_number, longest_period}
 use Rattle.cbs_rate.specs.Plan.{Planned, IsGreatestBudget}
 use Rattle.cbs_rate.specs.Rate.{Rate}
 use Rattle.cbs_guarantee.specs.Parts.{rate_at}
-use Rattle.cbs_guarantee.specs.Sources.{IsPromised, IsReason}
+use Rattle.cbs_guarantee.specs.Sources.{ticks_of, IsPromised, IsReason}
 use Rattle.cbs_guarantee.specs.declared.source.Source.{Source}
 use Rattle.cbsrun_loads.specs.Loads.{LoadFile}
 use Rattle.cbsrun_loads.specs.Sketches.{SketchFile}
@@ -13,7 +13,7 @@ use Rattle.cbsrun_proposals.specs.Proposals.{IsEnough, IsRemedy}
 use Rattle.cbsrun_proposals.specs.declared.remedy.Proposal.{Proposal}
 use Rattle.cbsrun_proposals.specs.declared.remedy.Remedy.{Remedy}
 use Rattle.cbsrun_proposals.specs.declared.wanted.Wanted.{Wanted}
-use Rattle.cbsrun_simulate.specs.Released.{distance}
+use Rattle.cbsrun_simulate.specs.Released.{distance, is_single}
 use Rattle.cbsrun_simulate.specs.declared.terms.SourceTerms.{SourceTerms}
 use Rattle.cbsrun_sizing.specs.Asked.{IsAsked, AreTooFine}
 use Rattle.cbsrun_sizing.specs.Budgets.{without}
@@ -35,6 +35,18 @@ at_most t = record { units = held t.units.greatest; every = distance t; overrun 
 -- the sources of server s, each at its greatest demand
 abbrev pub sources_of : ℕ → List SourceTerms → List Source
 sources_of s sources = map at_most (filter (λ t. eqb t.server s) sources)
+
+-- the source gives one job alone, to server s
+abbrev pub is_single_of : ℕ → SourceTerms → Bool
+is_single_of s t = eqb t.server s && is_single t.jobs
+
+-- the sources of server s that give more than one job, each at its greatest demand
+abbrev pub repeated_of : ℕ → List SourceTerms → List Source
+repeated_of s sources = map at_most (filter (λ t. eqb t.server s && not (is_single t.jobs)) sources)
+
+-- the most ticks of the jobs of the other sources of server s, which are asked for once: at most 2^64 - 1
+abbrev pub once_of : ℕ → List SourceTerms → ℕ
+once_of s sources = min (sum_by (λ t. if is_single_of s t then ticks_of (at_most t) else 0) sources) 18446744073709551615
 
 -- the most ticks that server s is charged for one unit: the greatest overrun of its sources
 abbrev pub most_charged : List SourceTerms → ℕ → ℕ
@@ -110,11 +122,13 @@ kept_within sources s period (Some p) = if not (eqb p.period period) && wants so
 abbrev pub IsRoomFor : Planned → ℕ → Option Proposal → ℕ → Type 0
 IsRoomFor plan s proposal room = MatchOption proposal (room ≡ 0) (λ p. IsGreatestBudget (without plan s) p.period room)
 
--- The figures of server s. `asked` is the demand of its sources, if that can be summed. `promised` is within how many
--- ticks of its release each of their jobs is finished, or why that is not promised. `remedy` is what would do, if its
--- reservation does not, `kept` which `within` has to be said with it, and `room` what fits at the remedy's period.
+-- The figures of server s. `asked` is the demand of its sources that give more than one job, if that can be summed, and
+-- `once` that of the others. `promised` is within how many ticks of its release each of their jobs is finished, or why
+-- that is not promised. `remedy` is what would do, if its reservation does not, `kept` which `within` has to be said with
+-- it, and `room` what fits at the remedy's period.
 pub record IsServerLoad (f : LoadFile) (s : ℕ) (l : ServerLoad) : Type 0 where
-  pub asked : let own = sources_of s f.sources in MatchOption l.asked (AreTooFine own) (IsAsked own)
+  pub asked : let own = repeated_of s f.sources in MatchOption l.asked (AreTooFine own) (IsAsked own)
+  pub once : l.once ≡ once_of s f.sources
   pub promised : let own = sources_of s f.sources in
       MatchResult l.promised (IsPromised (rate_at f.plan.rates s) own (delay_from_release f s) f.backlog)
       (IsReason (rate_at f.plan.rates s) own (delay_from_release f s) f.backlog)
@@ -125,7 +139,7 @@ pub record IsServerLoad (f : LoadFile) (s : ℕ) (l : ServerLoad) : Type 0 where
 
 -- what stands for a server that does not exist
 abbrev pub no_load : ServerLoad
-no_load = record { asked = None; promised = Ok 0; remedy = None; kept = None; room = 0 }
+no_load = record { asked = None; once = 0; promised = Ok 0; remedy = None; kept = None; room = 0 }
 
 -- the figures of each of the first n servers
 pub record AreServerLoads (f : LoadFile) (n : ℕ) (loads : List ServerLoad) : Type 0 where

@@ -2,9 +2,9 @@
 
 ghost use Rattle.std.specs.Prelude.{◌≡◌, ℕ, ◌*◌, ◌≤◌, ◌<◌, length, IfOk, MatchResult};
 ghost use Rattle.cbs_rate.specs.Limits.{longest_period};
-ghost use Rattle.cbs_guarantee.specs.Sources.{IsPromised, IsReason};
+ghost use Rattle.cbs_guarantee.specs.Sources.{ticks_of, IsPromised, IsReason};
 ghost use Rattle.cbsrun_proposals.specs.Proposals.{IsProposal};
-ghost use Rattle.cbsrun_sizing.specs.ServerLoads.{every_tick, held, at_most, sources_of, most_charged, all_charges, most_passed, lesser, least_within, wanted_by, wanted_in, wanted_of, is_wanted, kept_within, wants, proposed, AreShort, IsRoomFor, IsServerLoad, AreServerLoads};
+ghost use Rattle.cbsrun_sizing.specs.ServerLoads.{every_tick, held, at_most, sources_of, is_single_of, repeated_of, once_of, most_charged, all_charges, most_passed, lesser, least_within, wanted_by, wanted_in, wanted_of, is_wanted, kept_within, wants, proposed, AreShort, IsRoomFor, IsServerLoad, AreServerLoads};
 
 use crate::asked::{Asked, asked_by};
 use crate::budgets::greatest_budget_at;
@@ -18,8 +18,11 @@ use std::alloc::{AllocError, Global};
 /// The figures of the sources of a server.
 #[derive(Clone, Copy, PartialEq, Eq)]
 pub struct ServerLoad {
-    /// The greatest demand of the sources, all together, if it can be summed exactly.
+    /// The greatest demand of the sources that give more than one job, all together, if it can be summed exactly.
     pub asked: Option<Asked>,
+    /// The most ticks of the jobs of the other sources, each of which gives one job: they are asked for once. At most
+    /// 2^64 - 1.
+    pub once: u64,
     /// Within how many ticks of its release each of their jobs is finished, whatever the other servers are asked for,
     /// or why that is not promised. A charge of another server may pass a release, so that its job is submitted later:
     /// these ticks count, too.
@@ -69,6 +72,53 @@ fn sources_of(
         }
     }
     Ok(own)
+}
+
+/// Returns whether a source gives one job alone, to this server.
+fn is_single_of(terms: &SourceTerms, server: u16) -> bool
+    ensures { result ≡ is_single_of server terms.now }
+{
+    terms.server == server && terms.is_single()
+}
+
+/// Returns the sources of a server that give more than one job, each at its greatest demand. The only error is out of
+/// memory.
+fn repeated_of(
+    alloc: Global,
+    sources: &[SourceTerms],
+    server: u16,
+) -> Result<Vec<Source>, AllocError>
+    ensures value { IfOk result (λ own. own.items ≡ repeated_of server sources.now) }
+    ensures few { IfOk result (λ own. length own.items ≤ length sources.now) }
+{
+    let mut own = Vec::new(alloc);
+    for terms in sources {
+        if terms.server == server && !terms.is_single() {
+            own.push(at_most(terms))?;
+        }
+    }
+    Ok(own)
+}
+
+/// Returns the most ticks of a job of a source.
+fn job_ticks(terms: &SourceTerms) -> u64
+    ensures { result ≡ ticks_of (at_most terms.now) }
+{
+    let source = at_most(terms);
+    u64::from(source.units) * (1 + u64::from(source.overrun))
+}
+
+/// Returns the most ticks of the jobs of a server whose sources give one job each, or 2^64 - 1 if these are more.
+fn once_of(sources: &[SourceTerms], server: u16) -> u64
+    ensures { result ≡ once_of server sources.now }
+{
+    let mut ticks: u64 = 0;
+    for terms in sources {
+        if is_single_of(terms, server) {
+            ticks = ticks.saturating_add(job_ticks(terms));
+        }
+    }
+    ticks
 }
 
 /// Returns the most ticks that a server is charged for one unit: the greatest overrun of its sources.
@@ -284,10 +334,12 @@ fn server_load(
 {
     let reservation: Reservation = load.plan().get(server).unwrap();
     let own = sources_of(alloc, load.sources(), server)?;
+    let repeated = repeated_of(alloc, load.sources(), server)?;
     let wanted = wanted_of(load, server, charges);
     let remedy = remedy_for(reservation, &own, wanted);
     Ok(ServerLoad {
-        asked: asked_by(&own),
+        asked: asked_by(&repeated),
+        once: once_of(load.sources(), server),
         promised: guaranteed(reservation, &own, wanted.delay, wanted.backlog),
         remedy,
         kept: kept_within(
