@@ -5,5 +5,6 @@ pub mod ManyRuns
 pub mod ResultLines
 pub mod Printings
 pub mod Endings
+pub mod Others
 pub mod Drawings
 pub mod Wanted
