@@ -1,4 +1,4 @@
-use Rattle.std.proofs.Common.{[], flat_map, sym, ap, ◌∙◌, map-id}
+use Rattle.std.proofs.Common.{◌∷◌, [], flat_map, sym, ap, ◌∙◌, map-id}
 use Rattle.std.proofs.lemmas.Iterator.{YieldsList-from_chars}
 use Rattle.std.proofs.lemmas.Iterator.Consumers.{YieldsList-end}
 use Rattle.std.proofs.lemmas.List.{flat_map_more}
