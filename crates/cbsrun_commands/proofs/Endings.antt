@@ -1,6 +1,6 @@
 -- How a command on a file ends, by what it did and by what was told of it.
 use Rattle.std.proofs.Common.{◌≡◌, ◌&&◌, not, Bool, true, false, List, ℕ, ap, arith, subst, Result, Ok, Err, inl, inr}
-use Rattle.std.specs.Prelude.{IfOk}
+use Rattle.std.specs.Prelude.{◌≢◌, IfOk}
 use Rattle.cbsrun_tasks.specs.Spelling.{file}
 use Rattle.cbsrun_tasks.specs.TaskFiles.{File}
 use Rattle.cbsrun_toml_tables.specs.declared.fault.FileFault.{FileFault}
@@ -10,8 +10,8 @@ use Rattle.cbsrun_commands.specs.Outputs.{IsTaskReportText}
 use Rattle.cbsrun_lines.specs.Writers.{Writer, IsUntouched}
 use Rattle.cbsrun_lines.specs.declared.run_error.RunError.{RunError}
 use Rattle.cbsrun_lines.specs.declared.run_error.RunError.TheVariants.{OutOfMemory, WriteFault, ClockEnd, Stalled}
-use Rattle.cbsrun_commands.specs.Commands.{Command, Does, EndsAs, EndsByAnswer, Tells, TellsAnswer, answered, closed_pipe, done, not_done}
-use Rattle.cbsrun_commands.specs.Commands.{nothing_shown, refused, stopped}
+use Rattle.cbsrun_commands.specs.Commands.{Command, Does, EndsAs, EndsByAnswer, EndsCheck, Tells, TellsAnswer, TellsCheck, answered, closed_pipe, done, not_done, read, unread}
+use Rattle.cbsrun_commands.specs.Commands.{nothing_shown, refused, status_done, stopped}
 use Rattle.cbsrun_commands.specs.FaultLines.{Prints, StopsPrinting}
 use Rattle.cbsrun_commands.specs.declared.ending.Stopped.{Stopped}
 use Rattle.cbsrun_commands.specs.declared.ending.Stopped.TheVariants.{Unread, Ended, Run}
@@ -76,3 +76,27 @@ ends_by_answer c answers strict name bytes closed out out' err err' (Err (Run er
     (ends c name bytes (closed && not strict) out out' err err' (Err (Run error)) status d (inl (broke, is, kept)))
 ends_by_answer c answers strict name bytes closed out out' err err' (Err (Run error)) status d a (inr (other, is, told)) =
     rw is (not_done 4 (λ asked e. absurd (omega arith)) (stopped d.0 error d.1 d.2 other told))
+
+-- a command that is done has not the status of a file with a fault
+never_unread : (strict answer : Bool) (status : ℕ) → status ≡ status_done strict answer → status ≢ 3
+never_unread true true status is e = absurd (omega (arith, is, e))
+never_unread true false status is e = absurd (omega (arith, is, e))
+never_unread false answer status is e = absurd (omega (arith, is, e))
+
+-- `check` ends as it did, and as it was told
+pub ends_check : {F : Type 0} (c : Command F) (answers : F → Bool → Type 0) (strict : Bool) (name bytes : List ℕ) (closed : Bool)
+    (out out' err err' : Writer) (ended : Result Bool Stopped) (status : ℕ) → Does c bytes ended out out'
+    → IfOk ended (λ answer. (f : F) × (c.read bytes ≡ Ok f) × answers f answer) → TellsCheck strict name bytes closed ended err err' status
+    → EndsCheck c answers strict name bytes closed out out' err err' status
+ends_check c answers strict name bytes closed out out' err err' (Ok answer) status d a t =
+    read status (never_unread strict answer status t.0) (ends_by_answer c answers strict name bytes closed out out' err err' (Ok answer) status d a t)
+ends_check c answers strict name bytes closed out out' err err' (Err (Unread fault)) status d a t = rw t.0 (unread fault d.0 d.1 t.1)
+ends_check c answers strict name bytes closed out out' err err' (Err (Ended e)) status d a t =
+    read status (λ is. absurd (omega (arith, t.0, is)))
+    (ends_by_answer c answers strict name bytes closed out out' err err' (Err (Ended e)) status d a t)
+ends_check c answers strict name bytes closed out out' err err' (Err (Run error)) status d a (inl (broke, is, kept)) =
+    read status (λ e. absurd (omega (arith, is, e)))
+    (ends_by_answer c answers strict name bytes closed out out' err err' (Err (Run error)) status d a (inl (broke, is, kept)))
+ends_check c answers strict name bytes closed out out' err err' (Err (Run error)) status d a (inr (other, is, told)) =
+    read status (λ e. absurd (omega (arith, is, e)))
+    (ends_by_answer c answers strict name bytes closed out out' err err' (Err (Run error)) status d a (inr (other, is, told)))

@@ -4,5 +4,6 @@ pub mod ServedJobs
 pub mod ResultLines
 pub mod Printings
 pub mod Endings
+pub mod Others
 pub mod Drawings
 pub mod Wanted

@@ -4,7 +4,7 @@ use Rattle.cbsrun_window.specs.declared.shown.NothingShown.{NothingShown}
 use Rattle.cbsrun_toml_tables.specs.Documents.{no_memory}
 use Rattle.cbsrun_toml_tables.specs.declared.fault.FileFault.{FileFault}
 use Rattle.cbsrun_lines.specs.Writers.{Writer, FailsToWrite, IsUntouched, Writes, TriesToWrite}
-use Rattle.cbsrun_commands.specs.FaultLines.{run_line, nothing_shown_line, Explains, StopsPrinting}
+use Rattle.cbsrun_commands.specs.FaultLines.{run_line, nothing_shown_line, Explains, ExplainsAll, StopsPrinting}
 use Rattle.cbsrun_lines.specs.declared.run_error.RunError.{RunError}
 use Rattle.cbsrun_lines.specs.declared.run_error.RunError.TheVariants.{WriteFault}
 use Rattle.cbsrun_commands.specs.declared.ending.Stopped.{Stopped}
@@ -56,6 +56,11 @@ abbrev pub TellsAnswer : Bool → List ℕ → List ℕ → Bool → Result Bool
 TellsAnswer strict name bytes closed (Ok answer) old new status = (status ≡ status_done strict answer) × IsUntouched old new
 TellsAnswer strict name bytes closed (Err stopped) old new status = Tells name bytes (closed && not strict) (Err stopped) old new status
 
+-- the same of `check`, which explains the other faults of a file, too
+abbrev pub TellsCheck : Bool → List ℕ → List ℕ → Bool → Result Bool Stopped → Writer → Writer → ℕ → Type 0
+TellsCheck strict name bytes closed (Err (Unread fault)) old new status = (status ≡ 3) × ExplainsAll name bytes fault old new
+TellsCheck strict name bytes closed ended old new status = TellsAnswer strict name bytes closed ended old new status
+
 -- A command on the file with this name and these bytes ended with this status, and left out and err so. At 0 a text is
 -- printed, whole, or up to a write that found a closed pipe. At 2 there is nothing to show. At 3 the bytes spell no such
 -- file, or memory was refused. At 4 the run ended early
@@ -80,6 +85,15 @@ pub data EndsByAnswer {F : Type 0} (c : Command F) (answers : F → Bool → Typ
       → IsUntouched err err' → EndsByAnswer c answers strict name bytes closed out out' err err' (status_done strict answer)
   not_done : (status : ℕ) → (strict ≡ true → status ≢ 0) → EndsAs c name bytes (closed && not strict) out out' err err' status
       → EndsByAnswer c answers strict name bytes closed out out' err err' status
+
+-- `check` ended with this status, and left out and err so: as any command whose answer is yes or no, but at 3 the other
+-- faults of the file may be explained, too
+pub data EndsCheck {F : Type 0} (c : Command F) (answers : F → Bool → Type 0) (strict : Bool) (name bytes : List ℕ) (closed : Bool)
+    (out out' err err' : Writer) : ℕ → Type 0 where
+  read : (status : ℕ) → status ≢ 3 → EndsByAnswer c answers strict name bytes closed out out' err err' status
+      → EndsCheck c answers strict name bytes closed out out' err err' status
+  unread : (fault : FileFault) → (fault ≡ no_memory) ⊎ (c.read bytes ≡ Err fault) → IsUntouched out out' → ExplainsAll name bytes fault err err'
+      → EndsCheck c answers strict name bytes closed out out' err err' 3
 
 -- what a command that may find nothing to print left on the output, by its result: with no reason a whole text. With a
 -- reason there is none, and `lacks` says so

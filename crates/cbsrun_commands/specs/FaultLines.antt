@@ -1,11 +1,12 @@
 -- The lines of faults.
-use Rattle.std.specs.Prelude.{ℕ, List, ◌++◌, codes, decimal, ◌≡◌, [], ◌∷◌, Result, Ok, Err}
+use Rattle.std.specs.Prelude.{ℕ, List, ◌⊎◌, ◌++◌, codes, decimal, ◌≡◌, [], ◌∷◌, Result, Ok, Err}
 use Rattle.cbsrun_toml_tables.specs.Faults.{file_kind_number, file_kind_name, place_text}
 use Rattle.cbsrun_io.specs.Reads.{read_error_number, read_error_name}
 use Rattle.cbsrun_lines.specs.Writers.{run_error_number, run_error_name, Writer, IsUntouched, Writes, FailsToWrite, TriesToWrite}
 use Rattle.cbsrun_toml_tables.specs.declared.fault.FileFault.{FileFault}
 use Rattle.cbsrun_io.specs.declared.input.ReadError.{ReadError}
 use Rattle.cbsrun_lines.specs.declared.run_error.RunError.{RunError}
+use Rattle.cbsrun_fault_texts.specs.Others.{TellsOthersOf}
 use Rattle.cbsrun_fault_texts.specs.Refusals.{ExplainsRefusal}
 use Rattle.cbsrun_lines.specs.declared.run_error.RunError.TheVariants.{OutOfMemory, WriteFault, ClockEnd, Stalled}
 
@@ -50,3 +51,27 @@ StandsBelow name bytes fault (byte ∷ text) = (byte ≡ 10) × ExplainsRefusal 
 -- the line of a fault was written, and what stands below it; or a call failed, and a prefix of both was written
 abbrev pub Explains : List ℕ → List ℕ → FileFault → Writer → Writer → Type 0
 Explains name bytes fault old new = (below : List ℕ) × StandsBelow name bytes fault below × TriesToWrite old new (file_line fault ++ below)
+
+-- how many faults of a file `check` explains
+abbrev pub most_explained : ℕ
+most_explained = 10
+
+-- what `check` writes below that text: nothing, or what is told of the other faults
+abbrev pub StandsLast : List ℕ → List ℕ → Type 0
+StandsLast bytes others = (others ≡ []) ⊎ TellsOthersOf most_explained bytes others
+
+-- what `check` writes below the line of a fault: nothing, or an empty line, a text that explains the fault, and the others
+abbrev pub StandAllBelow : List ℕ → List ℕ → FileFault → List ℕ → Type 0
+StandAllBelow name bytes fault [] = Unit {0}
+StandAllBelow name bytes fault (byte ∷ texts) =
+    (byte ≡ 10) × (text : List ℕ) × (others : List ℕ) × ExplainsRefusal name bytes fault text × StandsLast bytes others × (texts ≡ text ++ others)
+
+-- the line of a fault was written, and what `check` writes below it; or a call failed, and a prefix of both was written
+abbrev pub ExplainsAll : List ℕ → List ℕ → FileFault → Writer → Writer → Type 0
+ExplainsAll name bytes fault old new =
+    (below : List ℕ) × StandAllBelow name bytes fault below × TriesToWrite old new (file_line fault ++ below)
+
+-- the line of a fault and the text that explains it were written
+abbrev pub WritesExplained : List ℕ → List ℕ → FileFault → Writer → Writer → Type 0
+WritesExplained name bytes fault old new =
+    (text : List ℕ) × ExplainsRefusal name bytes fault text × Writes old new (file_line fault ++ (10 ∷ text))

@@ -7,11 +7,11 @@ ghost use Rattle.cbsrun_commands.specs.declared.check.AnyFile.{AnyFile};
 ghost use Rattle.cbsrun_toml_tables.specs.Documents.{no_memory};
 ghost use Rattle.cbsrun_toml_tables.specs.Fields.{Gives};
 ghost use Rattle.cbsrun_commands.specs.Outputs.{all_promised, any_file, check_command, checked_load, is_promised, ArePromised, AreSourcesPromised, IsCheckIn, IsCheckText, IsLoadCheck};
-ghost use Rattle.cbsrun_commands.specs.Commands.{Does, EndsByAnswer};
+ghost use Rattle.cbsrun_commands.specs.Commands.{Does, EndsCheck};
 ghost use Rattle.cbsrun_command_line.specs.declared.actions.Form.TheVariants.{Json};
 ghost use Rattle.cbsrun_lines.specs.Writers.{MayWrite};
 
-use crate::ending::{Stopped, print, status_by_answer};
+use crate::ending::{Stopped, print, status_of_check};
 use cbs_guarantee::NotPromised;
 use cbsrun_check_json::{check_json, check_plan_json};
 use cbsrun_check_text::{check_load, check_plan};
@@ -170,9 +170,10 @@ fn check<O: ByteOutput>(
 /// the top table has the key `load`. JSON and the explanation of a fault name the file `name`. Returns the status.
 ///
 /// At status 0 the whole text is on `out`, or a prefix of it if a write found a closed pipe, and nothing on `err`. At
-/// status 3 the file has a fault: the line of the fault goes to `err`, with an explanation below it, and nothing to
-/// `out`. At status 4 the run ended early: the line of the run fault goes to `err`, and `out` has a prefix of the text.
-/// That prefix is empty unless a write failed. A line that cannot be written changes no status.
+/// status 3 the file has a fault: the line of the first fault goes to `err`, with an explanation below it, and nothing to
+/// `out`. Of a load, up to nine other faults are explained below that, and the last line says how many more there are.
+/// At status 4 the run ended early: the line of the run fault goes to `err`, and `out` has a prefix of the text. That
+/// prefix is empty unless a write failed. A line that cannot be written changes no status.
 ///
 /// If `strict` is true, the status is 1 in the place of 0 if the jobs of a source are not promised to be in time, and a
 /// closed pipe is a write that failed as any other.
@@ -191,12 +192,12 @@ pub fn check_bytes_within<O: ByteOutput, E: ByteOutput>(
 ) -> u8
     requires out { MayWrite (O.state out.old) }
     requires err { MayWrite (E.state err.old) }
-    ensures { EndsByAnswer (check_command form name.now) ArePromised strict
+    ensures { EndsCheck (check_command form name.now) ArePromised strict
         name.now bytes.now (O.closed out.new)
         (O.state out.old) (O.state out.new) (E.state err.old) (E.state err.new) result }
 {
     let ended = check(alloc, memory, form, name, bytes, out);
-    status_by_answer(
+    status_of_check(
         alloc,
         memory,
         strict,

@@ -1,15 +1,15 @@
 //! How a command on a file ends: its status, and what is written to standard error.
 
-ghost use Rattle.std.specs.Prelude.{◌≡◌};
+ghost use Rattle.std.specs.Prelude.{◌≡◌, IfSome};
 ghost use Rattle.cbsrun_toml_tables.specs.Documents.{no_memory};
-ghost use Rattle.cbsrun_commands.specs.Commands.{Tells, TellsAnswer, TellsRun, status_done};
-ghost use Rattle.cbsrun_commands.specs.FaultLines.{file_line, Explains, Prints};
+ghost use Rattle.cbsrun_commands.specs.Commands.{Tells, TellsAnswer, TellsCheck, TellsRun, status_done};
+ghost use Rattle.cbsrun_commands.specs.FaultLines.{file_line, Explains, ExplainsAll, Prints, WritesExplained};
 ghost use Rattle.cbsrun_commands.specs.declared.ending.Stopped.TheVariants.{Ended, Run, Unread};
 ghost use Rattle.cbsrun_lines.specs.Writers.{MayWrite, TriesToWrite};
 ghost use Rattle.cbsrun_lines.specs.declared.run_error.RunError.TheVariants.{OutOfMemory};
 
 use crate::fault_lines::{write_file_fault, write_nothing_shown, write_run_fault};
-use cbsrun_fault_texts::explain;
+use cbsrun_fault_texts::{explain, explain_others};
 use cbsrun_io::{ByteOutput, write_pieces, write_text};
 use cbsrun_lines::RunError;
 use cbsrun_runs::NothingShown;
@@ -30,6 +30,9 @@ pub const BAD_FILE: u8 = 3;
 
 /// The status of a run that ended early.
 pub const RUN_FAULT: u8 = 4;
+
+/// The most faults of a file that `check` explains.
+const MOST_EXPLAINED: usize = 10;
 
 /// The reason why a command ends early.
 #[derive(Clone, Copy)]
@@ -85,8 +88,34 @@ pub(crate) fn print<O: ByteOutput>(text: &str, out: &mut O) -> Result<(), RunErr
 
 /// Writes the line of a file's fault, then an empty line and an explanation of the fault. To explain a fault, the file is
 /// read as one document. The explanation is left out if the fault is out of memory, if the document needs more than
-/// `memory` bytes, or if there is no memory for it.
+/// `memory` bytes, or if there is no memory for it. Returns `None` if it is left out, or if a call failed.
 fn write_explained<E: ByteOutput>(
+    alloc: Global,
+    memory: u64,
+    name: &str,
+    bytes: &[u8],
+    fault: FileFault,
+    err: &mut E,
+) -> Option<()>
+    requires { MayWrite (E.state err.old) }
+    ensures explained { Explains name.now bytes.now fault (E.state err.old) (E.state err.new) }
+    ensures memory { fault ≡ no_memory → TriesToWrite (E.state err.old) (E.state err.new)
+        (file_line no_memory) }
+    ensures whole { IfSome result (λ _. WritesExplained name.now bytes.now fault
+        (E.state err.old) (E.state err.new)) }
+{
+    write_file_fault(err, fault).ok()?;
+    if fault.kind == FileKind::OutOfMemory || !wants_within(bytes, memory) {
+        return None;
+    }
+    let text = explain(alloc, name, bytes, fault).ok()?;
+    write_pieces(err, &["\n", text.as_str()]).ok()
+}
+
+/// Writes the line of a file's fault, an empty line and an explanation of the fault. Below it writes explanations of the
+/// other faults of the file, as [`explain_others`] makes them. They are left out if there is no memory for them, and if
+/// the first explanation is.
+fn write_all_explained<E: ByteOutput>(
     alloc: Global,
     memory: u64,
     name: &str,
@@ -95,18 +124,13 @@ fn write_explained<E: ByteOutput>(
     err: &mut E,
 )
     requires { MayWrite (E.state err.old) }
-    ensures explained { Explains name.now bytes.now fault (E.state err.old) (E.state err.new) }
-    ensures memory { fault ≡ no_memory → TriesToWrite (E.state err.old) (E.state err.new)
-        (file_line no_memory) }
+    ensures { ExplainsAll name.now bytes.now fault (E.state err.old) (E.state err.new) }
 {
-    let Ok(()) = write_file_fault(err, fault) else {
+    let Some(()) = write_explained(alloc, memory, name, bytes, fault, err) else {
         return;
     };
-    if fault.kind == FileKind::OutOfMemory || !wants_within(bytes, memory) {
-        return;
-    }
-    if let Ok(text) = explain(alloc, name, bytes, fault) {
-        let _written = write_pieces(err, &["\n", text.as_str()]);
+    if let Ok(others) = explain_others(alloc, name, bytes, MOST_EXPLAINED) {
+        let _written = write_text(err, others.as_bytes());
     }
 }
 
@@ -142,7 +166,7 @@ pub(crate) fn status_of<E: ByteOutput>(
     };
     match stopped {
         Stopped::Unread(fault) => {
-            write_explained(alloc, memory, name, bytes, fault, err);
+            let _explained = write_explained(alloc, memory, name, bytes, fault, err);
             BAD_FILE
         }
         Stopped::Ended(nothing) => {
@@ -188,4 +212,27 @@ pub(crate) fn status_by_answer<E: ByteOutput>(
             status_of(alloc, memory, name, bytes, Err(stopped), quiet, err)
         }
     }
+}
+
+/// Writes how `check` ended, on the file that the bytes spell, and returns the status, as [`status_by_answer`] does. If the
+/// file has faults, explains the others after the first one, too.
+pub(crate) fn status_of_check<E: ByteOutput>(
+    alloc: Global,
+    memory: u64,
+    strict: bool,
+    name: &str,
+    bytes: &[u8],
+    ended: Result<bool, Stopped>,
+    closed: bool,
+    err: &mut E,
+) -> u8
+    requires { MayWrite (E.state err.old) }
+    ensures { TellsCheck strict name.now bytes.now closed ended
+        (E.state err.old) (E.state err.new) result }
+{
+    if let Err(Stopped::Unread(fault)) = ended {
+        write_all_explained(alloc, memory, name, bytes, fault, err);
+        return BAD_FILE;
+    }
+    status_by_answer(alloc, memory, strict, name, bytes, ended, closed, err)
 }

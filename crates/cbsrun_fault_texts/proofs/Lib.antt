@@ -5,4 +5,5 @@ mod Laid
 mod Listed
 mod Pages
 mod Shares
+mod Told
 mod Words

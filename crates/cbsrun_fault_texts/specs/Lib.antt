@@ -1,3 +1,4 @@
+pub mod Others
 pub mod Over
 pub mod Pages
 pub mod Refusals

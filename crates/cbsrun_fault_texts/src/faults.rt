@@ -145,7 +145,7 @@ fn append_table_fault(page: &mut Page, spot: &Spot<'_>, kind: FileKind) {
 }
 
 /// Appends the explanation of a fault in a document.
-fn append_fault(page: &mut Page, document: Document<'_>, fault: FileFault)
+pub(crate) fn append_fault(page: &mut Page, document: Document<'_>, fault: FileFault)
     ensures { (file : List ℕ) (top : Members) → IsDocument file top document.entry
         → AppendsWhy file top fault page.old page.new }
 {
@@ -161,7 +161,7 @@ fn append_fault(page: &mut Page, document: Document<'_>, fault: FileFault)
 }
 
 /// Returns bytes as a text, or an empty one if they are none.
-fn text_of(bytes: &[u8]) -> &str {
+pub(crate) fn text_of(bytes: &[u8]) -> &str {
     std::str::from_utf8(bytes).unwrap_or("")
 }
 

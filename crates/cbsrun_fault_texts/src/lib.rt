@@ -1,4 +1,5 @@
-//! The explanation of a fault of a task file or a load file, for a person. It is printed below the line of the fault.
+//! The explanation of a fault of a task file or a load file, for a person. It is printed below the line of the fault. Of
+//! a load file the faults after the first one can be explained, too.
 #![tactic(auto)]
 
 mod faults;
@@ -6,6 +7,7 @@ mod key_line;
 mod limits;
 mod not_toml;
 mod notes;
+mod others;
 mod over;
 mod page;
 mod remarks;
@@ -13,3 +15,4 @@ mod shown;
 mod values;
 
 pub use faults::explain;
+pub use others::explain_others;

@@ -1,3 +1,5 @@
 pub mod Gaps
 pub mod Pairs
 pub mod Names
+mod Begins
+mod Judged

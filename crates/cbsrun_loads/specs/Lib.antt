@@ -1,3 +1,4 @@
+pub mod Faults
 pub mod Loads
 pub mod Servers
 pub mod Sketches

@@ -1,6 +1,6 @@
 //! A load file, read from its bytes.
 
-ghost use Rattle.std.specs.Prelude.{◌≡◌, ◌≤◌, ℕ, List, [], length, map, string_bytes, IfOk, OnOk, All};
+ghost use Rattle.std.specs.Prelude.{◌≡◌, ◌≤◌, ◌⊎◌, ℕ, List, [], length, map, string_bytes, IfOk, IfErr, OnOk, All};
 ghost use Rattle.toml.specs.View.{view, table_view};
 ghost use Rattle.cbs_rate.specs.Limits.{most_servers};
 ghost use Rattle.cbs_rules.specs.Setups.{no_servers};
@@ -28,8 +28,8 @@ use std::alloc::Global;
 use toml::{Table, Value};
 
 /// Admits the server of one entry: adds its name, and its reservation and mode. Refuses a name that another server has,
-/// and a server that the plan does not take.
-fn admit_entry(
+/// and a server that the plan does not take. A refused server adds no name.
+pub(crate) fn admit_entry(
     alloc: Global,
     tick: Option<u64>,
     names: &mut Vec<String>,
@@ -40,6 +40,8 @@ fn admit_entry(
     ensures servers { Gives OutOfMemory (λ _. named_view names.new.items setup.new) result
         (admitted_entry tick (named_view names.old.items setup.old) (view entry.now)) }
     ensures named { OnOk result (length names.new.items ≡ length setup.new.plan.rates) }
+    ensures kept { IfErr result (λ kind. (kind ≡ OutOfMemory)
+        ⊎ (names.new.items ≡ names.old.items)) }
 {
     let server = match server_entry(tick, entry) {
         Ok(server) => server,
@@ -57,7 +59,7 @@ fn admit_entry(
 }
 
 /// Returns the names, the plan and the modes of the servers of the entries of `server`.
-fn servers_of(
+pub(crate) fn servers_of(
     alloc: Global,
     tick: Option<u64>,
     bound: Bound,

@@ -2,6 +2,7 @@
 //! bytes of a TOML document.
 #![tactic(auto)]
 
+mod faults;
 mod file;
 mod listed;
 mod load;
@@ -13,6 +14,7 @@ mod source;
 mod times;
 mod top;
 
+pub use faults::{Faults, load_faults};
 pub use file::{load_in, read_load, read_load_within};
 pub use load::Load;
 pub use sketch::{Given, ServerSketch, Sketch};

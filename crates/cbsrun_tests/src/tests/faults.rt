@@ -2,7 +2,7 @@
 //! repository.
 
 use super::same;
-use cbsrun_fault_texts::explain;
+use cbsrun_fault_texts::{explain, explain_others};
 use cbsrun_loads::read_load;
 
 const COMMA_LEFT_OUT: &str = "load = 1\n\nbound = [1 1]\n";
@@ -41,4 +41,51 @@ fn a_file_whose_name_controls_a_terminal(rt: HostRuntime) {
         .ok()
         .expect(&rt, "memory");
     same(&rt, "explanation", text.as_str(), EXPLAINED_ELSEWHERE);
+}
+
+/// A load with two faulty sources.
+const TWO_FAULTS: &str = "load = 1
+bound = [1, 1]
+backlog = 4
+until = 200
+[[server]]
+name = \"a\"
+mode = \"soft\"
+budget = 1
+period = 5
+[[source]]
+server = \"a\"
+every = 0
+units = 1
+[[source]]
+server = \"a\"
+every = 5
+units = 1
+jobs = 0
+";
+
+/// What is told of the second fault.
+const SECOND: &str = "
+error: `jobs` is 0, and has to be a number from 1 to 1000000000000
+  --> LOAD.toml:18: source 1, of \"a\"
+   |
+18 | jobs = 0
+   |        ^ 1 to 1000000000000
+";
+
+#[test]
+fn the_faults_after_the_first(rt: HostRuntime) {
+    let alloc = rt.alloc();
+    for (file, most, told) in &[
+        (TWO_FAULTS, 10, SECOND),
+        (TWO_FAULTS, 2, SECOND),
+        (TWO_FAULTS, 1, "\nand 1 more\n"),
+        (COMMA_LEFT_OUT, 10, ""),
+        ("format = 3\n", 10, ""),
+    ] {
+        let text = explain_others(alloc, "LOAD.toml", file.as_bytes(), *most)
+            .ok()
+            .expect(&rt, "memory");
+        same(&rt, told, text.as_str(), *told);
+    }
 }
