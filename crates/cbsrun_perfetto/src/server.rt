@@ -52,7 +52,7 @@ fn title_text(
 }
 
 /// Appends a line after another one.
-pub(crate) fn append_next(text: &mut String, line: &str) -> Result<(), AllocError>
+fn append_next(text: &mut String, line: &str) -> Result<(), AllocError>
     ensures { OnOk result (string_bytes text.new ≡ string_bytes text.old ++ next_text line.now) }
 {
     text.push_str(",\n")?;
