@@ -18,6 +18,7 @@ use Rattle.cbsrun_window.specs.declared.window.Window.{Window}
 use Rattle.cbsrun_perfetto.specs.Events.{LineSeen, about_data, budget_line, came_args, event_text, finished_args, hidden_event, instant_line, job_args}
 use Rattle.cbsrun_perfetto.specs.Events.{left_out_event, named_args, no_args, placed_args, slice_line}
 use Rattle.cbsrun_perfetto.specs.Times.{tick_text}
+use Rattle.cbsrun_time_texts.specs.Texts.{time_text}
 use Rattle.std.specs.Ordering.{nat_cmp}
 use Rattle.std.specs.List.Sorted.{IsPermutation, IsSortedByKey, IsStableByKey}
 use Rattle.serde_json.specs.Written.{compact_text}
@@ -149,18 +150,18 @@ abbrev pub next_text : List ℕ → List ℕ
 next_text text = codes ",\n" ++ text
 
 -- the title of a server: its name, reservation and mode
-unfoldable pub title_text : List ℕ → Rate → Mode → List ℕ
-title_text name r mode = name ++ codes ", " ++ decimal r.budget ++ codes " in every " ++ decimal r.period ++ codes ", " ++ mode_word mode
+unfoldable pub title_text : Option ℕ → List ℕ → Rate → Mode → List ℕ
+title_text n name r mode = name ++ codes ", " ++ time_text n r.budget ++ codes " in every " ++ time_text n r.period ++ codes ", " ++ mode_word mode
 
 -- the description of a server: its title, and its place
-unfoldable pub server_text : ℕ → Drawn → List ℕ
-server_text place d =
-    next_text (compact_text (about_data (codes "thread_name") (place + 1) (named_args (title_text (string_bytes d.name) d.reservation d.mode))))
+unfoldable pub server_text : Option ℕ → ℕ → Drawn → List ℕ
+server_text n place d =
+    next_text (compact_text (about_data (codes "thread_name") (place + 1) (named_args (title_text n (string_bytes d.name) d.reservation d.mode))))
     ++ next_text (compact_text (about_data (codes "thread_sort_index") (place + 1) (placed_args place)))
 
 -- the descriptions of all servers
-unfoldable pub servers_text : List Drawn → List ℕ
-servers_text servers = numbered server_text 0 servers
+unfoldable pub servers_text : Option ℕ → List Drawn → List ℕ
+servers_text n servers = numbered (server_text n) 0 servers
 
 -- how many ticks of the run are not shown, if there are any
 abbrev pub hidden_line : Option ℕ → ℕ → Option Hidden → List ℕ
@@ -191,7 +192,7 @@ opening_text n file = opening n ++ process_text file
 -- a trace with these events, in this order. Its times are in microseconds
 unfoldable pub trace_text : Picture → List LineSeen → List ℕ
 trace_text p ordered =
-    opening_text p.tick (string_bytes p.file) ++ servers_text p.servers.items ++ hidden_line p.tick p.window.from (hidden_of p.window p.end)
+    opening_text p.tick (string_bytes p.file) ++ servers_text p.tick p.servers.items ++ hidden_line p.tick p.window.from (hidden_of p.window p.end)
     ++ left_out_line p.tick p.window.from (left_out_of p.others) ++ lines_text p.tick ordered ++ codes "\n]}\n"
 
 -- the text is the trace of the picture: exactly the events of its servers, in order

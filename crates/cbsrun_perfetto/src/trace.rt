@@ -39,12 +39,17 @@ fn ordered_events(alloc: Global, window: Window, servers: &[Drawn]) -> Result<Ve
 
 /// Appends the descriptions of all servers.
 #[tactic(auto, unfolding(crate::specs::Traces::servers_text))]
-fn append_servers(alloc: Global, text: &mut String, servers: &[Drawn]) -> Result<(), AllocError>
+fn append_servers(
+    alloc: Global,
+    text: &mut String,
+    nanoseconds: Option<u64>,
+    servers: &[Drawn],
+) -> Result<(), AllocError>
     ensures { OnOk result (string_bytes text.new ≡ string_bytes text.old
-        ++ servers_text servers.now) }
+        ++ servers_text nanoseconds servers.now) }
 {
     for (place, server) in servers.iter().enumerate() {
-        append_server(alloc, text, place as u64, server)?;
+        append_server(alloc, text, nanoseconds, place as u64, server)?;
     }
     Ok(())
 }
@@ -142,7 +147,7 @@ fn trace_text(alloc: Global, picture: &Picture, lines: &[Line]) -> Result<String
     let from = picture.window.from;
     let mut text = String::new(alloc);
     append_opening(alloc, &mut text, tick, &picture.file)?;
-    append_servers(alloc, &mut text, &picture.servers)?;
+    append_servers(alloc, &mut text, tick, &picture.servers)?;
     append_hidden(alloc, &mut text, tick, from, picture.hidden())?;
     append_left_out(alloc, &mut text, tick, from, picture.left_out())?;
     append_lines(&mut text, tick, lines)?;

@@ -24,17 +24,17 @@ three_pieces (Ok x) old first second new a word b c is_first is_second is is_new
 three_pieces (Err e) old first second new a word b c is_first is_second is is_new = tt
 
 -- room for one server more
-left_push : (n : ℕ) (ds : List Drawn) (d : Drawn) → left_of n (ds ++ d ∷ []) ≡ max (words_width n d) (left_of n ds)
-left_push n [] d = refl
-left_push n (x ∷ ds) d = swapped (words_width n x) (words_width n d) (left_of n ds) (left_of n (ds ++ d ∷ [])) (left_push n ds d)
+left_push : (n : Option ℕ) (k : ℕ) (ds : List Drawn) (d : Drawn) → left_of n k (ds ++ d ∷ []) ≡ max (words_width n k d) (left_of n k ds)
+left_push n k [] d = refl
+left_push n k (x ∷ ds) d = swapped (words_width n k x) (words_width n k d) (left_of n k ds) (left_of n k (ds ++ d ∷ [])) (left_push n k ds d)
   where
     swapped : (a b c e : ℕ) → e ≡ max b c → max a e ≡ max b (max a c)
     swapped a b c e h = omega arith
 
 -- .. the next one of a list
-pub left_next : (n : ℕ) (ds : List Drawn) (i : ℕ) (d : Drawn) → i < length ds
-    → left_of n (take (i + 1) ds) ≡ max (words_width n (get_or ds i d)) (left_of n (take i ds))
-left_next n ds i d lt = ap (left_of n) (take_more ds i d lt) ∙ left_push n (take i ds) (get_or ds i d)
+pub left_next : (n : Option ℕ) (k : ℕ) (ds : List Drawn) (i : ℕ) (d : Drawn) → i < length ds
+    → left_of n k (take (i + 1) ds) ≡ max (words_width n k (get_or ds i d)) (left_of n k (take i ds))
+left_next n k ds i d lt = ap (left_of n k) (take_more ds i d lt) ∙ left_push n k (take i ds) (get_or ds i d)
 
 -- one row more, below the others
 rows_push : (n : Option ℕ) (a : AxisSeen) (l : Layout) (w : Window) (top : ℕ) (ds : List Drawn) (d : Drawn)

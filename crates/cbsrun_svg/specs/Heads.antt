@@ -176,6 +176,6 @@ came_text came refused finished late =
 -- the sentence that says what a picture shows of a server
 unfoldable pub sentence_text : Option ℕ → Window → List ℕ → Drawn → List ℕ
 sentence_text n w name d =
-    who_text n name (mode_word d.mode) (terms_text d.reservation) (units_of w d.chart) (charged_of w d.chart)
+    who_text n name (mode_word d.mode) (terms_text n d.reservation) (units_of w d.chart) (charged_of w d.chart)
     ++ came_text (told (length d.chart.arrivals.items + d.chart.refusals)) d.chart.refusals (length d.chart.completions.items)
     (count_by (is_late w) d.chart.jobs.items)

@@ -16,19 +16,19 @@ use Rattle.cbsrun_svg_shapes.specs.declared.columns.Layer.TheVariants.{Idle}
 use Rattle.cbsrun_svg.specs.declared.style.TheConstants.{STYLE, LEGEND, CHARGED_LEGEND, CHARGED_FILL_LEGEND, BUDGET_LEGEND, COLUMN_LEGEND}
 
 -- the width of a server's words; of each word at most 40 letters count
-abbrev pub words_width : ℕ → Drawn → ℕ
-words_width servers d =
-    if ltb 8 servers then 2800 + 800 * min 40 (length (string_bytes d.name)) + 620 * min 40 (length (short_terms_text d.reservation d.mode))
-    else max (2400 + 870 * min 40 (length (string_bytes d.name))) (4000 + 620 * min 40 (length (terms_text d.reservation)))
+abbrev pub words_width : Option ℕ → ℕ → Drawn → ℕ
+words_width n servers d =
+    if ltb 8 servers then 2800 + 800 * min 40 (length (string_bytes d.name)) + 620 * min 40 (length (short_terms_text n d.reservation d.mode))
+    else max (2400 + 870 * min 40 (length (string_bytes d.name))) (4000 + 620 * min 40 (length (terms_text n d.reservation)))
 
 -- the left edge of the axis, which leaves room for the widest words
-abbrev pub left_of : ℕ → List Drawn → ℕ
-left_of servers [] = 15000
-left_of servers (d ∷ ds) = max (words_width servers d) (left_of servers ds)
+abbrev pub left_of : Option ℕ → ℕ → List Drawn → ℕ
+left_of n servers [] = 15000
+left_of n servers (d ∷ ds) = max (words_width n servers d) (left_of n servers ds)
 
 -- where the parts of a picture stand: its axis, its rows, and the line of its scale
 abbrev pub axis_for : Picture → AxisSeen
-axis_for p = axis_of p.window (left_of (length p.servers.items) p.servers.items)
+axis_for p = axis_of p.window (left_of p.tick (length p.servers.items) p.servers.items)
 
 abbrev pub layout_for : Picture → Layout
 layout_for p = layout_of (length p.servers.items) (axis_for p)

@@ -17,6 +17,7 @@ use Rattle.cbsrun_svg_shapes.specs.Spans.{bar_class, from_to_text, late_text, pa
 use Rattle.cbsrun_svg_shapes.specs.declared.columns.Layer.{Layer}
 use Rattle.cbsrun_svg_shapes.specs.declared.columns.Layer.TheVariants as layer
 use Rattle.cbsrun_text.specs.Numbers.{mode_word}
+use Rattle.cbsrun_time_texts.specs.Texts.{time_text}
 
 -- how many units ran in a window
 abbrev pub units_of : Window → ServerChart → ℕ
@@ -31,18 +32,18 @@ abbrev pub text_line : Layout → ℕ
 text_line l = if l.compact then l.bar + l.height - 30 else l.bar + l.height - 400
 
 -- a reservation in its long and in its short form
-unfoldable pub terms_text : Rate → List ℕ
-terms_text r = decimal r.budget ++ codes " in every " ++ decimal r.period
+unfoldable pub terms_text : Option ℕ → Rate → List ℕ
+terms_text n r = time_text n r.budget ++ codes " in every " ++ time_text n r.period
 
-unfoldable pub short_terms_text : Rate → Mode → List ℕ
-short_terms_text r mode = decimal r.budget ++ codes " in " ++ decimal r.period ++ codes " " ++ mode_word mode
+unfoldable pub short_terms_text : Option ℕ → Rate → Mode → List ℕ
+short_terms_text n r mode = time_text n r.budget ++ codes " in " ++ time_text n r.period ++ codes " " ++ mode_word mode
 
 -- the name, the reservation and the mode of a server
-unfoldable pub names_text : AxisSeen → Layout → List ℕ → Rate → Mode → List ℕ
-names_text a l name r mode =
+unfoldable pub names_text : Option ℕ → AxisSeen → Layout → List ℕ → Rate → Mode → List ℕ
+names_text n a l name r mode =
     if l.compact
-    then label_text (codes "k") 1600 (text_line l) name ++ label_text (codes "m r") (a.left - 1200) (text_line l) (short_terms_text r mode)
-    else label_text (codes "n") 1600 2100 name ++ label_text (codes "m") 1600 3600 (terms_text r) ++ label_text (codes "m") 1600 5000 (mode_word mode)
+    then label_text (codes "k") 1600 (text_line l) name ++ label_text (codes "m r") (a.left - 1200) (text_line l) (short_terms_text n r mode)
+    else label_text (codes "n") 1600 2100 name ++ label_text (codes "m") 1600 3600 (terms_text n r) ++ label_text (codes "m") 1600 5000 (mode_word mode)
 
 -- how many units ran, and below that how many ticks were charged, if there are any
 unfoldable pub units_text : AxisSeen → Layout → ℕ → ℕ → List ℕ
@@ -74,7 +75,7 @@ marks_text a l c =
 -- a row that is drawn tick by tick
 unfoldable pub fine_text : Option ℕ → AxisSeen → Layout → List ℕ → Mode → Drawn → List ℕ
 fine_text n a l name mode d =
-    pale_path a l d.chart.spans.items ++ budget_text a l d.reservation.budget d.chart.opening d.chart.corners.items ++ line_text a l
+    pale_path a l d.chart.spans.items ++ budget_text n a l d.reservation.budget d.chart.opening d.chart.corners.items ++ line_text a l
     ++ spans_text n a l name mode d.chart ++ lates_text n a l name d.chart.late.items ++ marks_text a l d.chart
 
 -- the columns of a layer, which stand on the line `base` and are at most `whole` high
@@ -118,5 +119,5 @@ inside_text n a l w name mode d = if l.dense then dense_text n a l w name mode d
 -- the row of a server, whose top edge is at `top`
 unfoldable pub row_text : Option ℕ → AxisSeen → Layout → Window → ℕ → List ℕ → Mode → Drawn → List ℕ
 row_text n a l w top name mode d =
-    codes "<g transform=\"translate(0 " ++ decimal top ++ codes ")\">\n" ++ names_text a l name d.reservation mode ++ units_text a l (units_of w d.chart) (charged_of w d.chart)
+    codes "<g transform=\"translate(0 " ++ decimal top ++ codes ")\">\n" ++ names_text n a l name d.reservation mode ++ units_text a l (units_of w d.chart) (charged_of w d.chart)
     ++ inside_text n a l w name mode d ++ codes "</g>\n"

@@ -282,7 +282,7 @@ pub(crate) fn append_sentence(
         ++ sentence_text nanoseconds window name.now drawn.now) }
 {
     let chart = &drawn.chart;
-    let terms = terms_text(alloc, drawn.reservation)?;
+    let terms = terms_text(alloc, nanoseconds, drawn.reservation)?;
     append_who(
         text,
         nanoseconds,

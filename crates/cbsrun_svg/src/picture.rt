@@ -20,27 +20,32 @@ use std::alloc::{AllocError, Global};
 use std::fmt::Write;
 
 /// Returns the width of a server's words, at most 100,000.
-fn words_width(alloc: Global, servers: usize, drawn: &Drawn) -> Result<u64, AllocError>
-    ensures value { IfOk result (λ width. width ≡ words_width servers drawn.now) }
+fn words_width(
+    alloc: Global,
+    nanoseconds: Option<u64>,
+    servers: usize,
+    drawn: &Drawn,
+) -> Result<u64, AllocError>
+    ensures value { IfOk result (λ width. width ≡ words_width nanoseconds servers drawn.now) }
     ensures small { IfOk result (λ width. width ≤ 100000) }
 {
     let letters = (drawn.name.len() as u64).min(40);
     if servers > 8 {
-        let terms = short_terms_text(alloc, drawn.reservation, drawn.mode)?;
+        let terms = short_terms_text(alloc, nanoseconds, drawn.reservation, drawn.mode)?;
         return Ok(2800 + 800 * letters + 620 * (terms.len() as u64).min(40));
     }
-    let terms = terms_text(alloc, drawn.reservation)?;
+    let terms = terms_text(alloc, nanoseconds, drawn.reservation)?;
     Ok((2400 + 870 * letters).max(4000 + 620 * (terms.len() as u64).min(40)))
 }
 
 /// Returns the left edge of the axis, which leaves room for the widest words.
-fn left_of(alloc: Global, servers: &[Drawn]) -> Result<u64, AllocError>
-    ensures value { IfOk result (λ left. left ≡ left_of (length servers.now) servers.now) }
+fn left_of(alloc: Global, nanoseconds: Option<u64>, servers: &[Drawn]) -> Result<u64, AllocError>
+    ensures value { IfOk result (λ left. left ≡ left_of nanoseconds (length servers.now) servers.now) }
     ensures small { IfOk result (λ left. left ≤ 100000) }
 {
     let mut left = 15_000;
     for server in servers {
-        left = words_width(alloc, servers.len(), server)?.max(left);
+        left = words_width(alloc, nanoseconds, servers.len(), server)?.max(left);
     }
     Ok(left)
 }
@@ -450,7 +455,10 @@ pub fn svg_text(alloc: Global, picture: &Picture) -> Result<String, AllocError>
     requires short { IsShort picture.now.window }
     ensures { IfOk result (λ text. string_bytes text ≡ svg_text picture.now) }
 {
-    let axis = Axis::of(picture.window, left_of(alloc, &picture.servers)?);
+    let axis = Axis::of(
+        picture.window,
+        left_of(alloc, picture.tick, &picture.servers)?,
+    );
     let layout = Layout::of(picture.servers.len(), &axis);
     let file = escaped(alloc, &picture.file)?;
     let heading = heading_text(alloc, picture.tick, &file, picture.window)?;

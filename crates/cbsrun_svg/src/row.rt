@@ -12,6 +12,7 @@ use cbsrun_svg_shapes::{
     append_refused, append_span, append_titled, bar_class, cell_counts, heights_of,
 };
 use cbsrun_text::mode_word;
+use cbsrun_time_texts::append_time;
 use std::alloc::{AllocError, Global};
 use std::fmt::Write;
 
@@ -43,27 +44,37 @@ fn text_line(layout: &Layout) -> u64
 
 /// Returns a reservation in its long form.
 #[tactic(auto, unfolding(crate::specs::Rows::terms_text))]
-pub(crate) fn terms_text(alloc: Global, reservation: Reservation) -> Result<String, AllocError>
-    ensures { IfOk result (λ text. string_bytes text ≡ terms_text reservation) }
+pub(crate) fn terms_text(
+    alloc: Global,
+    tick: Option<u64>,
+    reservation: Reservation,
+) -> Result<String, AllocError>
+    ensures { IfOk result (λ text. string_bytes text ≡ terms_text tick reservation) }
 {
-    let budget = reservation.budget();
-    let period = reservation.period();
-    format!(in alloc; "{budget} in every {period}")
+    let mut text = String::new(alloc);
+    append_time(&mut text, tick, reservation.budget())?;
+    text.push_str(" in every ")?;
+    append_time(&mut text, tick, reservation.period())?;
+    Ok(text)
 }
 
 /// Returns a reservation and a mode in their short form.
 #[tactic(auto, unfolding(crate::specs::Rows::short_terms_text))]
 pub(crate) fn short_terms_text(
     alloc: Global,
+    tick: Option<u64>,
     reservation: Reservation,
     mode: Mode,
 ) -> Result<String, AllocError>
-    ensures { IfOk result (λ text. string_bytes text ≡ short_terms_text reservation mode) }
+    ensures { IfOk result (λ text. string_bytes text ≡ short_terms_text tick reservation mode) }
 {
-    let budget = reservation.budget();
-    let period = reservation.period();
-    let mode = mode_word(mode);
-    format!(in alloc; "{budget} in {period} {mode}")
+    let mut text = String::new(alloc);
+    append_time(&mut text, tick, reservation.budget())?;
+    text.push_str(" in ")?;
+    append_time(&mut text, tick, reservation.period())?;
+    text.push_str(" ")?;
+    text.push_str(mode_word(mode))?;
+    Ok(text)
 }
 
 /// Appends the name, the reservation and the mode of a server.
@@ -75,13 +86,13 @@ fn append_names(
     reservation: Reservation,
 ) -> Result<(), AllocError>
     ensures { OnOk result (string_bytes text.new ≡ string_bytes text.old
-        ++ names_text place.now.axis place.now.layout place.now.name.now reservation
+        ++ names_text place.now.tick place.now.axis place.now.layout place.now.name.now reservation
         place.now.mode) }
 {
     if place.layout.compact {
         let y = text_line(&place.layout);
         append_label(text, "k", 1600, y, place.name)?;
-        let terms = short_terms_text(alloc, reservation, place.mode)?;
+        let terms = short_terms_text(alloc, place.tick, reservation, place.mode)?;
         return append_label(
             text,
             "m r",
@@ -91,7 +102,7 @@ fn append_names(
         );
     }
     append_label(text, "n", 1600, 2100, place.name)?;
-    let terms = terms_text(alloc, reservation)?;
+    let terms = terms_text(alloc, place.tick, reservation)?;
     append_label(text, "m", 1600, 3600, &terms)?;
     append_label(text, "m", 1600, 5000, mode_word(place.mode))
 }
@@ -209,6 +220,7 @@ fn append_fine(
     append_budget(
         alloc,
         text,
+        place.tick,
         axis,
         layout,
         whole,
