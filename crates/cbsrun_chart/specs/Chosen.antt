@@ -21,4 +21,5 @@ pub record IsChosen (names : List (List ℕ)) (all p : Picture) : Type 0 where
   pub reserved : p.reserved ≡ all.reserved
   pub window : p.window ≡ all.window
   pub end : p.end ≡ all.end
+  pub tick : p.tick ≡ all.tick
   pub idle : p.idle ≡ all.idle

@@ -33,6 +33,8 @@ pub struct Picture {
     pub window: Window,
     /// The clock at the end of the run.
     pub end: u64,
+    /// The nanoseconds of a tick, or `None` if the file does not say how long a tick is.
+    pub tick: Option<u64>,
     /// The ticks in which nobody runs.
     pub idle: Vec<Stretch>,
     /// The servers that are drawn, by number.

@@ -48,3 +48,10 @@ pub two_pieces : (r : Result (Unit {0}) AllocError) (old between new a b word : 
 two_pieces (Ok x) old between new a b word first second is =
     second ∙ (ap (λ t. between ++ t) is ∙ (ap (λ t. t ++ b) first ∙ append_assoc old a b))
 two_pieces (Err x) old between new a b word first second is = tt
+
+-- a text after two others
+pub three_pieces : (r : Result (Unit {0}) AllocError) (old first second new a b word : List ℕ) → first ≡ old ++ a → second ≡ first ++ b
+    → new ≡ (if is_ok r then second ++ word else second) → OnOk r (new ≡ old ++ (a ++ (b ++ word)))
+three_pieces (Ok x) old first second new a b word is_first is_second is =
+    is ∙ (ap (λ t. t ++ word) (is_second ∙ ap (λ t. t ++ b) is_first) ∙ (append_assoc (old ++ a) b word ∙ append_assoc old a (b ++ word)))
+three_pieces (Err x) old first second new a b word is_first is_second is = tt

@@ -1,83 +1,93 @@
--- The events of a trace, as JSON objects.
-use Rattle.std.specs.Prelude.{ℕ, ◌-◌, List, [], ◌∷◌, ◌++◌, codes, map, Option, Some, None}
-use Rattle.std.specs.Borrow.{Bor}
-use Rattle.serde_json.specs.Data.{Data, string, object, Members, no_members, put}
+-- The events of a trace.
+use Rattle.std.specs.Prelude.{ℕ, ◌-◌, List, [], ◌∷◌, ◌++◌, codes, decimal, Option, Some, None}
+use Rattle.serde_json.specs.Data.{Data, string, object, no_members}
 use Rattle.serde_json.specs.Written.{compact_text}
 use Rattle.cbsrun_chart.specs.Hidden.{hidden_text, left_out_text}
 use Rattle.cbsrun_chart.specs.declared.hidden.Hidden.{Hidden}
 use Rattle.cbsrun_chart.specs.declared.hidden.LeftOut.{LeftOut}
 use Rattle.cbsrun_chart.specs.declared.jobs.ChartJob.{ChartJob}
-use Rattle.cbsrun_json.specs.Members.{long_if, member_of, object_of, scalar_data, whole, whole_if, with_members}
-use Rattle.cbsrun_json.specs.declared.scalar.Scalar.{Scalar}
+use Rattle.cbsrun_json.specs.Members.{long_if, object_of, whole, whole_if}
+use Rattle.cbsrun_perfetto.specs.Times.{microseconds_text}
 
--- the event with these members, with more members, and with arguments
-abbrev pub event_data : List (Bor (List ℕ) × Scalar) → List (Bor (List ℕ) × Scalar) → Data → Data
-event_data first more args =
-    object (put (codes "args") args (with_members (map (member_of scalar_data) more) (with_members (map (member_of scalar_data) first) no_members)))
+-- a line of a trace: an event, with its tick, and how many ticks it goes on, if it does. Its other members stand before
+-- these times, and between them
+pub record LineSeen : Type 0 where
+  pub tick : ℕ
+  pub lasts : Option ℕ
+  pub before : List ℕ
+  pub between : List ℕ
 
--- the members, with a thread and a tick
-abbrev pub with_place : ℕ → ℕ → Members → Members
-with_place thread tick ms = with_members ((codes "pid", whole 1) ∷ (codes "tid", whole thread) ∷ (codes "ts", whole tick) ∷ []) ms
+-- an event before its times: its arguments and its category
+unfoldable pub before_text : List ℕ → Data → List ℕ
+before_text cat args = codes "{\"args\":" ++ compact_text args ++ codes ",\"cat\":" ++ compact_text (string cat)
 
--- the members that all events on a thread have: the phase, the name, the category, and the place
-unfoldable pub on_thread : List ℕ → List ℕ → List ℕ → ℕ → ℕ → Members
-on_thread phase name cat thread tick =
-    with_place thread tick (with_members (
-    (codes "ph", string phase)
-    ∷ (codes "name", string name)
-    ∷ (codes "cat", string cat)
-    ∷ []) no_members)
+-- an event between its times: its name, phase and scope, and its thread
+unfoldable pub between_text : List ℕ → List ℕ → List ℕ → ℕ → List ℕ
+between_text name phase scope thread =
+    codes ",\"name\":" ++ compact_text (string name) ++ codes ",\"ph\":\"" ++ phase ++ codes "\",\"pid\":1" ++ scope
+    ++ codes ",\"tid\":" ++ decimal thread
 
--- the event of something that goes on from one tick up to another, on a thread
-unfoldable pub slice_data : List ℕ → List ℕ → ℕ → ℕ → ℕ → Data → Data
-slice_data name cat thread from to args =
-    object (with_members (
-    (codes "dur", whole (to - from))
-    ∷ (codes "args", args)
-    ∷ []) (on_thread (codes "X") name cat thread from))
+-- how long an event goes on, if it does
+abbrev pub duration_text : Option ℕ → Option ℕ → List ℕ
+duration_text n None = []
+duration_text n (Some ticks) = codes ",\"dur\":" ++ microseconds_text n ticks
 
--- the event of something that happens at a tick, on a thread
-unfoldable pub instant_data : List ℕ → List ℕ → ℕ → ℕ → Data → Data
-instant_data name cat thread tick args =
-    object (with_members (
-    (codes "s", string (codes "t"))
-    ∷ (codes "args", args)
-    ∷ []) (on_thread (codes "i") name cat thread tick))
+-- the event of a line, with its times in microseconds, by the nanoseconds of a tick
+unfoldable pub event_text : Option ℕ → LineSeen → List ℕ
+event_text n line =
+    line.before ++ duration_text n line.lasts ++ line.between ++ codes ",\"ts\":" ++ microseconds_text n line.tick ++ codes "}"
+
+-- something that goes on from one tick up to another, on a thread
+unfoldable pub slice_line : List ℕ → List ℕ → ℕ → ℕ → ℕ → Data → LineSeen
+slice_line name cat thread from to args =
+    record { tick = from; lasts = Some (to - from); before = before_text cat args; between = between_text name (codes "X") [] thread }
+
+-- something that happens at a tick, on a thread
+unfoldable pub instant_line : List ℕ → List ℕ → ℕ → ℕ → Data → LineSeen
+instant_line name cat thread tick args = record {
+  tick = tick;
+  lasts = None;
+  before = before_text cat args;
+  between = between_text name (codes "i") (codes ",\"s\":\"t\"") thread;
+}
+
+-- something that is not shown: it is of the whole process
+unfoldable pub unseen_line : List ℕ → ℕ → Data → LineSeen
+unseen_line name tick args = record {
+  tick = tick;
+  lasts = None;
+  before = before_text (codes "hidden") args;
+  between = between_text name (codes "i") (codes ",\"s\":\"p\"") 1;
+}
 
 -- the arguments of ticks that are not shown: how many are before and after
 unfoldable pub hidden_args : Hidden → Data
 hidden_args h = object_of ((codes "before", whole h.before) ∷ (codes "after", whole h.after) ∷ [])
 
--- the event of ticks that are not shown. It stands at the first tick that is, and is of the whole process
-unfoldable pub hidden_data : ℕ → Hidden → Data
-hidden_data tick h =
-    object (with_members (
-    (codes "s", string (codes "p"))
-    ∷ (codes "args", hidden_args h)
-    ∷ []) (on_thread (codes "i") (hidden_text h) (codes "hidden") 1 tick))
+-- ticks that are not shown, told at the first tick that is
+abbrev pub hidden_event : ℕ → Hidden → LineSeen
+hidden_event tick h = unseen_line (hidden_text h) tick (hidden_args h)
 
 -- the arguments of servers that are not drawn: how many they are
 unfoldable pub left_out_args : LeftOut → Data
 left_out_args o = object_of ((codes "servers", whole o.servers) ∷ [])
 
--- the event of servers that are not drawn. It stands at the first tick that is shown, and is of the whole process
-unfoldable pub left_out_data : ℕ → LeftOut → Data
-left_out_data tick o =
-    object (with_members (
-    (codes "s", string (codes "p"))
-    ∷ (codes "args", left_out_args o)
-    ∷ []) (on_thread (codes "i") (left_out_text o) (codes "hidden") 1 tick))
+-- servers that are not drawn, told at the first tick that is shown
+abbrev pub left_out_event : ℕ → LeftOut → LineSeen
+left_out_event tick o = unseen_line (left_out_text o) tick (left_out_args o)
 
 -- the arguments that give a budget
 unfoldable pub budget_args : ℕ → Data
 budget_args budget = object_of ((codes "c", whole budget) ∷ [])
 
--- the event of a budget that holds from a tick on
-unfoldable pub budget_data : List ℕ → ℕ → ℕ → ℕ → Data
-budget_data name thread tick budget =
-    object (with_members (
-    (codes "args", budget_args budget)
-    ∷ []) (on_thread (codes "C") (codes "budget of " ++ name) (codes "budget") thread tick))
+-- a budget that holds from a tick on
+unfoldable pub budget_line : List ℕ → ℕ → ℕ → ℕ → LineSeen
+budget_line name thread tick budget = record {
+  tick = tick;
+  lasts = None;
+  before = before_text (codes "budget") (budget_args budget);
+  between = between_text (codes "budget of " ++ name) (codes "C") [] thread;
+}
 
 -- the event that describes a thread: by a name, by the name of the whole process, or by its place
 unfoldable pub about_data : List ℕ → ℕ → Data → Data
@@ -119,11 +129,3 @@ came_args job = object_of ((codes "units", whole job.units) ∷ [])
 -- the arguments of the end of a job: how many ticks it took, and how many ticks late it was
 unfoldable pub finished_args : ℕ → ℕ → Data
 finished_args took late = object_of ((codes "response", whole took) ∷ (codes "late", whole late) ∷ [])
-
--- a line of a trace: an event, with its tick
-pub record LineSeen : Type 0 where
-  pub tick : ℕ
-  pub text : List ℕ
-
-abbrev pub line_of : ℕ → Data → LineSeen
-line_of tick d = record { tick = tick; text = compact_text d }

@@ -15,8 +15,10 @@ use Rattle.cbsrun_window.specs.declared.stretch.Kind.TheVariants as kind
 use Rattle.cbsrun_window.specs.declared.stretch.Stretch.{Stretch}
 use Rattle.cbsrun_window.specs.Windows.{ends_tick, has_tick}
 use Rattle.cbsrun_window.specs.declared.window.Window.{Window}
-use Rattle.cbsrun_perfetto.specs.Events.{LineSeen, budget_data, came_args, finished_args, hidden_data, instant_data, job_args, left_out_data, line_of, no_args, slice_data, about_data}
-use Rattle.cbsrun_perfetto.specs.Events.{named_args, placed_args}
+use Rattle.cbsrun_perfetto.specs.Events.{LineSeen, about_data, budget_line, came_args, event_text, finished_args, hidden_event, instant_line, job_args}
+use Rattle.cbsrun_perfetto.specs.Events.{left_out_event, named_args, no_args, placed_args, slice_line}
+use Rattle.cbsrun_perfetto.specs.Times.{tick_text}
+use Rattle.cbsrun_time_texts.specs.Texts.{time_text}
 use Rattle.std.specs.Ordering.{nat_cmp}
 use Rattle.std.specs.List.Sorted.{IsPermutation, IsSortedByKey, IsStableByKey}
 use Rattle.serde_json.specs.Written.{compact_text}
@@ -28,11 +30,11 @@ use Rattle.cbsrun_text.specs.Numbers.{mode_word}
 -- a bar of job j, with what is known of the job
 unfoldable pub bar_line : ℕ → List ChartJob → ℕ → Stretch → LineSeen
 bar_line thread jobs j p =
-    line_of p.from (slice_data (codes "job " ++ decimal j) (codes "run") thread p.from p.to (job_args j (job_numbered j jobs)))
+    slice_line (codes "job " ++ decimal j) (codes "run") thread p.from p.to (job_args j (job_numbered j jobs))
 
 -- ticks that are no bar, by what goes on in them
 unfoldable pub other_line : ℕ → List ℕ → Stretch → LineSeen
-other_line thread what p = line_of p.from (slice_data what what thread p.from p.to no_args)
+other_line thread what p = slice_line what what thread p.from p.to no_args
 
 -- the slice of a stretch, if it has one: a bar, charged ticks, or ticks in which the server has a job, and waits or is
 -- throttled
@@ -55,9 +57,8 @@ late_by (Some within) took = took - within
 -- the end of a job that took this many ticks, and was late by this many
 unfoldable pub end_line : ℕ → ChartJob → ℕ → ℕ → ℕ → LineSeen
 end_line thread job tick took late =
-    line_of tick
-    (instant_data (codes "job " ++ decimal job.number ++ codes " finished" ++ (if eqb late 0 then [] else codes ", late"))
-    (if eqb late 0 then codes "completion" else codes "late") thread tick (finished_args took late))
+    instant_line (codes "job " ++ decimal job.number ++ codes " finished" ++ (if eqb late 0 then [] else codes ", late"))
+    (if eqb late 0 then codes "completion" else codes "late") thread tick (finished_args took late)
 
 -- the end of a job, if the job was finished in the window
 abbrev pub end_at : Window → ℕ → ChartJob → Option ℕ → List LineSeen
@@ -72,7 +73,7 @@ ends_of w thread jobs = flat_map (λ job. end_at w thread job job.finish) jobs
 
 -- a tick in which a release is refused
 unfoldable pub refused_line : ℕ → ℕ → LineSeen
-refused_line thread tick = line_of tick (instant_data (codes "refused") (codes "refused") thread tick no_args)
+refused_line thread tick = instant_line (codes "refused") (codes "refused") thread tick no_args
 
 -- the refused releases of each tick of a stretch
 unfoldable pub refusals_in : ℕ → Stretch → List LineSeen
@@ -84,7 +85,7 @@ refusals_of thread ps = flat_map (refusals_in thread) ps
 -- the arrival of a job
 unfoldable pub arrival_line : ℕ → ChartJob → LineSeen
 arrival_line thread job =
-    line_of job.came (instant_data (codes "job " ++ decimal job.number ++ codes " comes") (codes "arrival") thread job.came (came_args job))
+    instant_line (codes "job " ++ decimal job.number ++ codes " comes") (codes "arrival") thread job.came (came_args job)
 
 -- the arrival of a job, if the job came in the window
 abbrev pub arrival_in : Window → ℕ → ChartJob → List LineSeen
@@ -95,14 +96,10 @@ arrivals_of w thread jobs = flat_map (arrival_in w thread) jobs
 
 -- a deadline of the server
 unfoldable pub deadline_line : ℕ → ℕ → LineSeen
-deadline_line thread tick = line_of tick (instant_data (codes "deadline") (codes "deadline") thread tick no_args)
+deadline_line thread tick = instant_line (codes "deadline") (codes "deadline") thread tick no_args
 
 unfoldable pub deadlines_of : ℕ → List ℕ → List LineSeen
 deadlines_of thread ts = map (deadline_line thread) ts
-
--- the budget of a server from a tick on
-unfoldable pub budget_line : List ℕ → ℕ → ℕ → ℕ → LineSeen
-budget_line name thread tick budget = line_of tick (budget_data name thread tick budget)
 
 -- the budget before corner i of its course
 abbrev pub budget_before : ℕ → List Corner → ℕ → ℕ
@@ -153,50 +150,50 @@ abbrev pub next_text : List ℕ → List ℕ
 next_text text = codes ",\n" ++ text
 
 -- the title of a server: its name, reservation and mode
-unfoldable pub title_text : List ℕ → Rate → Mode → List ℕ
-title_text name r mode = name ++ codes ", " ++ decimal r.budget ++ codes " in every " ++ decimal r.period ++ codes ", " ++ mode_word mode
+unfoldable pub title_text : Option ℕ → List ℕ → Rate → Mode → List ℕ
+title_text n name r mode = name ++ codes ", " ++ time_text n r.budget ++ codes " in every " ++ time_text n r.period ++ codes ", " ++ mode_word mode
 
 -- the description of a server: its title, and its place
-unfoldable pub server_text : ℕ → Drawn → List ℕ
-server_text place d =
-    next_text (compact_text (about_data (codes "thread_name") (place + 1) (named_args (title_text (string_bytes d.name) d.reservation d.mode))))
+unfoldable pub server_text : Option ℕ → ℕ → Drawn → List ℕ
+server_text n place d =
+    next_text (compact_text (about_data (codes "thread_name") (place + 1) (named_args (title_text n (string_bytes d.name) d.reservation d.mode))))
     ++ next_text (compact_text (about_data (codes "thread_sort_index") (place + 1) (placed_args place)))
 
 -- the descriptions of all servers
-unfoldable pub servers_text : List Drawn → List ℕ
-servers_text servers = numbered server_text 0 servers
+unfoldable pub servers_text : Option ℕ → List Drawn → List ℕ
+servers_text n servers = numbered (server_text n) 0 servers
 
 -- how many ticks of the run are not shown, if there are any
-abbrev pub hidden_line : ℕ → Option Hidden → List ℕ
-hidden_line tick None = []
-hidden_line tick (Some h) = next_text (compact_text (hidden_data tick h))
+abbrev pub hidden_line : Option ℕ → ℕ → Option Hidden → List ℕ
+hidden_line n tick None = []
+hidden_line n tick (Some h) = next_text (event_text n (hidden_event tick h))
 
 -- how many servers are not drawn, if there are any
-abbrev pub left_out_line : ℕ → Option LeftOut → List ℕ
-left_out_line tick None = []
-left_out_line tick (Some o) = next_text (compact_text (left_out_data tick o))
+abbrev pub left_out_line : Option ℕ → ℕ → Option LeftOut → List ℕ
+left_out_line n tick None = []
+left_out_line n tick (Some o) = next_text (event_text n (left_out_event tick o))
 
--- all events, each on a line of its own
-unfoldable pub lines_text : List LineSeen → List ℕ
-lines_text lines = flat_map (λ line. next_text line.text) lines
+-- all events, each on a line of its own, by the nanoseconds of a tick
+unfoldable pub lines_text : Option ℕ → List LineSeen → List ℕ
+lines_text n lines = flat_map (λ line. next_text (event_text n line)) lines
 
 -- the event that gives the name of the file
 unfoldable pub process_text : List ℕ → List ℕ
 process_text file = compact_text (about_data (codes "process_name") 0 (named_args file))
 
--- the text before the events
-abbrev pub opening : List ℕ
-opening = codes "{\"displayTimeUnit\":\"ns\",\"otherData\":{\"unit\":\"a tick is a microsecond\"},\"traceEvents\":[\n"
+-- the text before the events, around how long a tick is
+abbrev pub opening : Option ℕ → List ℕ
+opening n = codes "{\"displayTimeUnit\":\"ns\",\"otherData\":{\"unit\":\"a tick is " ++ tick_text n ++ codes "\"},\"traceEvents\":[\n"
 
 -- the opening of the document, with the name of the file
-unfoldable pub opening_text : List ℕ → List ℕ
-opening_text file = opening ++ process_text file
+unfoldable pub opening_text : Option ℕ → List ℕ → List ℕ
+opening_text n file = opening n ++ process_text file
 
--- a trace with these events, in this order
+-- a trace with these events, in this order. Its times are in microseconds
 unfoldable pub trace_text : Picture → List LineSeen → List ℕ
 trace_text p ordered =
-    opening_text (string_bytes p.file) ++ servers_text p.servers.items ++ hidden_line p.window.from (hidden_of p.window p.end)
-    ++ left_out_line p.window.from (left_out_of p.others) ++ lines_text ordered ++ codes "\n]}\n"
+    opening_text p.tick (string_bytes p.file) ++ servers_text p.tick p.servers.items ++ hidden_line p.tick p.window.from (hidden_of p.window p.end)
+    ++ left_out_line p.tick p.window.from (left_out_of p.others) ++ lines_text p.tick ordered ++ codes "\n]}\n"
 
 -- the text is the trace of the picture: exactly the events of its servers, in order
 pub record IsTrace (p : Picture) (text : List ℕ) : Type 0 where

@@ -1,12 +1,10 @@
-//! The events of a trace, as JSON objects.
+//! The events of a trace.
 
-ghost use Rattle.std.specs.Prelude.{◌≡◌, false, IfOk, map, string_bytes};
-ghost use Rattle.serde_json.specs.Data.{no_members};
+ghost use Rattle.std.specs.Prelude.{◌≡◌, false, IfOk, string_bytes};
+ghost use Rattle.serde_json.specs.Data.{string};
 ghost use Rattle.serde_json.specs.View.{view};
 ghost use Rattle.serde_json.specs.Written.{compact_text, has_float};
-ghost use Rattle.cbsrun_json.specs.Members.{member_of, scalar_data, with_members};
-ghost use Rattle.cbsrun_perfetto.specs.Events.{about_data, came_args, event_data, finished_args, hidden_args, hidden_data, instant_data, job_args, left_out_args, left_out_data, line_of, named_args, no_args, on_thread, placed_args, slice_data};
-ghost use Rattle.cbsrun_perfetto.specs.Traces.{budget_line};
+ghost use Rattle.cbsrun_perfetto.specs.Events.{about_data, before_text, between_text, budget_args, budget_line, came_args, finished_args, hidden_args, hidden_event, instant_line, job_args, left_out_args, left_out_event, named_args, no_args, placed_args, slice_line, unseen_line};
 
 use crate::line::Line;
 use cbsrun_chart::{ChartJob, Hidden, LeftOut, Stretch};
@@ -89,80 +87,89 @@ pub(crate) fn no_args(alloc: Global) -> Result<Value, AllocError>
     object_of::<Scalar<'_>>(alloc, &[])
 }
 
-/// Returns the members that all events on a thread have: the phase, the name, the category, and the place.
-#[tactic(auto, unfolding(crate::specs::Events::on_thread))]
-fn on_thread<'a>(
-    phase: &'a str,
-    name: &'a str,
-    cat: &'a str,
-    thread: u64,
-    tick: u64,
-) -> [(&'static str, Scalar<'a>); 6]
-    ensures { with_members (map (member_of scalar_data) result) no_members
-        ≡ on_thread phase.now name.now cat.now thread tick }
+/// Returns a text as JSON.
+fn quoted(alloc: Global, text: &str) -> Result<String, AllocError>
+    ensures { IfOk result (λ json. string_bytes json ≡ compact_text (string text.now)) }
 {
-    [
-        ("ph", Scalar::Text(phase)),
-        ("name", Scalar::Text(name)),
-        ("cat", Scalar::Text(cat)),
-        ("pid", Scalar::Whole(1)),
-        ("tid", Scalar::Whole(thread)),
-        ("ts", Scalar::Whole(tick)),
-    ]
+    Value::try_from_str(alloc, text)?.to_string(alloc)
 }
 
-/// Returns the event with these members, with more members, and with arguments, as text.
-fn event_text(
-    alloc: Global,
-    first: &[(&str, Scalar<'_>)],
-    more: &[(&str, Scalar<'_>)],
-    args: Value,
-) -> Result<String, AllocError>
-    ensures { let event = event_data first.now more.now (view args) in
-        IfOk result (λ text. has_float event ≡ false → string_bytes text ≡ compact_text event) }
+/// Returns an event before its times: its arguments and its category.
+#[tactic(auto, unfolding(crate::specs::Events::before_text))]
+fn before_text(alloc: Global, cat: &str, args: &Value) -> Result<String, AllocError>
+    requires { has_float (view args.now) ≡ false }
+    ensures { IfOk result (λ text. string_bytes text ≡ before_text cat.now (view args.now)) }
 {
-    let mut members = Map::new(alloc);
-    put_all(alloc, &mut members, first)?;
-    put_all(alloc, &mut members, more)?;
-    put(&mut members, alloc, "args", args)?;
-    Value::Object(members).to_string(alloc)
+    let args = args.to_string(alloc)?;
+    let cat = quoted(alloc, cat)?;
+    format!(in alloc; "{{\"args\":{args},\"cat\":{cat}")
+}
+
+/// Returns an event between its times: its name, phase and scope, and its thread.
+#[tactic(auto, unfolding(crate::specs::Events::between_text))]
+fn between_text(
+    alloc: Global,
+    name: &str,
+    phase: &str,
+    scope: &str,
+    thread: u64,
+) -> Result<String, AllocError>
+    ensures { IfOk result (λ text. string_bytes text
+        ≡ between_text name.now phase.now scope.now thread) }
+{
+    let name = quoted(alloc, name)?;
+    format!(in alloc; ",\"name\":{name},\"ph\":\"{phase}\",\"pid\":1{scope},\"tid\":{thread}")
 }
 
 /// Returns the line of something that goes on during a stretch, on a thread.
+#[tactic(auto, unfolding(crate::specs::Events::slice_line))]
 pub(crate) fn slice_line(
     alloc: Global,
     name: &str,
     cat: &str,
     thread: u64,
     span: &Stretch,
-    args: Value,
+    args: &Value,
 ) -> Result<Line, AllocError>
-    requires { has_float (view args) ≡ false }
-    ensures { IfOk result (λ line. line ≡ line_of span.now.from (slice_data name.now cat.now thread
-        span.now.from span.now.to (view args))) }
+    requires { has_float (view args.now) ≡ false }
+    ensures { IfOk result (λ line. line ≡ slice_line name.now cat.now thread span.now.from span.now.to
+        (view args.now)) }
 {
-    let place = on_thread("X", name, cat, thread, span.from);
     let ticks = span.to.saturating_sub(span.from);
-    let text = event_text(alloc, &place, &[("dur", Scalar::Whole(ticks))], args)?;
-    Ok(Line::new(span.from, text))
+    let before = before_text(alloc, cat, args)?;
+    let between = between_text(alloc, name, "X", "", thread)?;
+    Ok(Line::new(span.from, Some(ticks), before, between))
 }
 
 /// Returns the line of something that happens at a tick, on a thread.
+#[tactic(auto, unfolding(crate::specs::Events::instant_line))]
 pub(crate) fn instant_line(
     alloc: Global,
     name: &str,
     cat: &str,
     thread: u64,
     tick: u64,
-    args: Value,
+    args: &Value,
 ) -> Result<Line, AllocError>
-    requires { has_float (view args) ≡ false }
-    ensures { IfOk result (λ line. line ≡ line_of tick (instant_data name.now cat.now thread tick
-        (view args))) }
+    requires { has_float (view args.now) ≡ false }
+    ensures { IfOk result (λ line. line ≡ instant_line name.now cat.now thread tick
+        (view args.now)) }
 {
-    let place = on_thread("i", name, cat, thread, tick);
-    let text = event_text(alloc, &place, &[("s", Scalar::Text("t"))], args)?;
-    Ok(Line::new(tick, text))
+    let before = before_text(alloc, cat, args)?;
+    let between = between_text(alloc, name, "i", ",\"s\":\"t\"", thread)?;
+    Ok(Line::new(tick, None, before, between))
+}
+
+/// Returns the line of something that is not shown. It stands at the first tick that is shown, `tick`, and is of the
+/// whole process.
+#[tactic(auto, unfolding(crate::specs::Events::unseen_line))]
+fn unseen_line(alloc: Global, name: &str, tick: u64, args: &Value) -> Result<Line, AllocError>
+    requires { has_float (view args.now) ≡ false }
+    ensures { IfOk result (λ line. line ≡ unseen_line name.now tick (view args.now)) }
+{
+    let before = before_text(alloc, "hidden", args)?;
+    let between = between_text(alloc, name, "i", ",\"s\":\"p\"", 1)?;
+    Ok(Line::new(tick, None, before, between))
 }
 
 /// Returns the arguments of ticks that are not shown: how many are before and after.
@@ -180,15 +187,13 @@ fn hidden_args(alloc: Global, hidden: Hidden) -> Result<Value, AllocError>
     )
 }
 
-/// Returns the event of ticks that are not shown, as text. It stands at the first tick that is, `tick`, and is of the
-/// whole process.
-pub(crate) fn hidden_text(alloc: Global, tick: u64, hidden: Hidden) -> Result<String, AllocError>
-    ensures { IfOk result (λ text. string_bytes text ≡ compact_text (hidden_data tick hidden)) }
+/// Returns the line of ticks that are not shown, at the first tick that is shown, `tick`.
+pub(crate) fn hidden_line(alloc: Global, tick: u64, hidden: Hidden) -> Result<Line, AllocError>
+    ensures { IfOk result (λ line. line ≡ hidden_event tick hidden) }
 {
     let name = hidden.to_string(alloc)?;
     let args = hidden_args(alloc, hidden)?;
-    let place = on_thread("i", &name, "hidden", 1, tick);
-    event_text(alloc, &place, &[("s", Scalar::Text("p"))], args)
+    unseen_line(alloc, &name, tick, &args)
 }
 
 /// Returns the arguments of servers that are not drawn: how many they are.
@@ -200,22 +205,26 @@ fn left_out_args(alloc: Global, left_out: LeftOut) -> Result<Value, AllocError>
     object_of(alloc, &[("servers", Scalar::Whole(left_out.servers))])
 }
 
-/// Returns the event of servers that are not drawn, as text. It stands at the first tick that is shown, `tick`, and is of
-/// the whole process.
-pub(crate) fn left_out_text(
-    alloc: Global,
-    tick: u64,
-    left_out: LeftOut,
-) -> Result<String, AllocError>
-    ensures { IfOk result (λ text. string_bytes text ≡ compact_text (left_out_data tick left_out)) }
+/// Returns the line of servers that are not drawn, at the first tick that is shown, `tick`.
+pub(crate) fn left_out_line(alloc: Global, tick: u64, left_out: LeftOut) -> Result<Line, AllocError>
+    ensures { IfOk result (λ line. line ≡ left_out_event tick left_out) }
 {
     let name = left_out.to_string(alloc)?;
     let args = left_out_args(alloc, left_out)?;
-    let place = on_thread("i", &name, "hidden", 1, tick);
-    event_text(alloc, &place, &[("s", Scalar::Text("p"))], args)
+    unseen_line(alloc, &name, tick, &args)
+}
+
+/// Returns the arguments that give a budget.
+#[tactic(auto, unfolding(crate::specs::Events::budget_args))]
+fn budget_args(alloc: Global, budget: u64) -> Result<Value, AllocError>
+    ensures value { IfOk result (λ v. view v ≡ budget_args budget) }
+    ensures plain { IfOk result (λ v. has_float (view v) ≡ false) }
+{
+    object_of(alloc, &[("c", Scalar::Whole(budget))])
 }
 
 /// Returns the line of a budget that holds from a tick on.
+#[tactic(auto, unfolding(crate::specs::Events::budget_line))]
 pub(crate) fn budget_line(
     alloc: Global,
     name: &str,
@@ -226,13 +235,31 @@ pub(crate) fn budget_line(
     ensures { IfOk result (λ line. line ≡ budget_line name.now thread tick budget) }
 {
     let name = format!(in alloc; "budget of {name}")?;
-    let args = object_of(alloc, &[("c", Scalar::Whole(budget))])?;
-    let place = on_thread("C", &name, "budget", thread, tick);
-    let text = event_text(alloc, &place, &[], args)?;
-    Ok(Line::new(tick, text))
+    let args = budget_args(alloc, budget)?;
+    let before = before_text(alloc, "budget", &args)?;
+    let between = between_text(alloc, &name, "C", "", thread)?;
+    Ok(Line::new(tick, None, before, between))
 }
 
-/// Returns the event that describes a thread, such as by a name, as text.
+/// Returns the event that describes a thread, such as by a name.
+#[tactic(auto, unfolding(crate::specs::Events::about_data))]
+fn about_value(alloc: Global, what: &str, thread: u64, args: Value) -> Result<Value, AllocError>
+    ensures { IfOk result (λ v. view v ≡ about_data what.now thread (view args)) }
+{
+    let place = [
+        ("ph", Scalar::Text("M")),
+        ("pid", Scalar::Whole(1)),
+        ("tid", Scalar::Whole(thread)),
+        ("ts", Scalar::Whole(0)),
+        ("name", Scalar::Text(what)),
+    ];
+    let mut members = Map::new(alloc);
+    put_all(alloc, &mut members, &place)?;
+    put(&mut members, alloc, "args", args)?;
+    Ok(Value::Object(members))
+}
+
+/// Returns the event that describes a thread, as text.
 pub(crate) fn about_text(
     alloc: Global,
     what: &str,
@@ -243,12 +270,5 @@ pub(crate) fn about_text(
     ensures { IfOk result (λ text. string_bytes text
         ≡ compact_text (about_data what.now thread (view args))) }
 {
-    let members = [
-        ("ph", Scalar::Text("M")),
-        ("pid", Scalar::Whole(1)),
-        ("tid", Scalar::Whole(thread)),
-        ("ts", Scalar::Whole(0)),
-        ("name", Scalar::Text(what)),
-    ];
-    event_text(alloc, &members, &[], args)
+    about_value(alloc, what, thread, args)?.to_string(alloc)
 }

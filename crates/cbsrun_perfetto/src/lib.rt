@@ -6,6 +6,7 @@ mod line;
 mod marks;
 mod server;
 mod slices;
+mod times;
 mod trace;
 
 pub use trace::trace_json;

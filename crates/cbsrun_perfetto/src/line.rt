@@ -3,8 +3,10 @@
 ghost use Rattle.std.specs.Prelude.{◌≡◌, [], ◌∷◌, ◌++◌, OnOk, string_bytes};
 ghost use Rattle.std.specs.Ordering.{nat_cmp};
 ghost use Rattle.std.specs.List.Sorted.{IsPermutation, IsSortedByKey, IsStableByKey};
-ghost use Rattle.cbsrun_perfetto.specs.Traces.{tick_of};
+ghost use Rattle.cbsrun_perfetto.specs.Events.{duration_text, event_text};
+ghost use Rattle.cbsrun_perfetto.specs.Traces.{next_text, tick_of};
 
+use crate::times::append_microseconds;
 use std::alloc::AllocError;
 use std::marker::Model;
 
@@ -12,7 +14,9 @@ use std::marker::Model;
 #[derive(Drop)]
 pub(crate) struct Line {
     tick: u64,
-    text: String,
+    lasts: Option<u64>,
+    before: String,
+    between: String,
 }
 
 impl Model for Line {
@@ -21,15 +25,26 @@ impl Model for Line {
 
     ghost Value = { LineSeen };
 
-    ghost view = { λ l. record { tick = l.tick; text = string_bytes l.text } };
+    ghost view = { λ l. record { tick = l.tick; lasts = l.lasts; before = string_bytes l.before; between = string_bytes l.between } };
 }
 
 impl Line {
-    /// Returns the line of an event at a tick.
-    pub fn new(tick: u64, text: String) -> Line
-        ensures { result ≡ record { tick = tick; text = string_bytes text } }
+    /// Returns the line of an event at a tick, which goes on for `lasts` ticks, if it does. Its other members stand before
+    /// these times, and between them.
+    pub fn new(tick: u64, lasts: Option<u64>, before: String, between: String) -> Line
+        ensures { result ≡ record {
+          tick = tick;
+          lasts = lasts;
+          before = string_bytes before;
+          between = string_bytes between;
+        } }
     {
-        Line { tick, text }
+        Line {
+            tick,
+            lasts,
+            before,
+            between,
+        }
     }
 
     /// Returns the tick.
@@ -39,12 +54,36 @@ impl Line {
         self.tick
     }
 
-    /// Returns the text.
-    pub fn text(&self) -> &str
-        ensures { result.now ≡ self.now.text }
+    /// Appends the event after another one, with its times in microseconds, by the nanoseconds of a tick.
+    #[tactic(auto, unfolding(crate::specs::Events::event_text))]
+    pub fn append(&self, text: &mut String, nanoseconds: Option<u64>) -> Result<(), AllocError>
+        ensures { OnOk result (string_bytes text.new ≡ string_bytes text.old
+            ++ next_text (event_text nanoseconds self.now)) }
     {
-        &self.text
+        text.push_str(",\n")?;
+        text.push_str(&self.before)?;
+        append_duration(text, nanoseconds, self.lasts)?;
+        text.push_str(&self.between)?;
+        text.push_str(",\"ts\":")?;
+        append_microseconds(text, nanoseconds, self.tick)?;
+        text.push_str("}")
     }
+}
+
+/// Appends how long an event goes on, if it does.
+fn append_duration(
+    text: &mut String,
+    nanoseconds: Option<u64>,
+    lasts: Option<u64>,
+) -> Result<(), AllocError>
+    ensures { OnOk result (string_bytes text.new ≡ string_bytes text.old
+        ++ duration_text nanoseconds lasts) }
+{
+    let Some(ticks) = lasts else {
+        return Ok(());
+    };
+    text.push_str(",\"dur\":")?;
+    append_microseconds(text, nanoseconds, ticks)
 }
 
 /// Appends a line. The only error is out of memory.

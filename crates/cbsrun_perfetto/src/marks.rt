@@ -3,7 +3,7 @@
 ghost use Rattle.std.specs.Prelude.{◌≡◌, ◌<◌, ◌++◌, false, IfOk, OnOk, codes, decimal, length};
 ghost use Rattle.serde_json.specs.View.{view};
 ghost use Rattle.serde_json.specs.Written.{has_float};
-ghost use Rattle.cbsrun_perfetto.specs.Events.{instant_data, line_of};
+ghost use Rattle.cbsrun_perfetto.specs.Events.{instant_line};
 ghost use Rattle.cbsrun_perfetto.specs.Traces.{arrival_in, arrival_line, arrivals_of, budget_before, budgets_of, change_at, change_between, changes_of, deadline_line, deadlines_of, end_at, end_line, ends_of, late_by, refusals_in, refusals_of, refused_line};
 
 use crate::events::{budget_line, came_args, finished_args, instant_line, no_args};
@@ -33,11 +33,11 @@ fn named_end(
     args: Value,
 ) -> Result<Line, AllocError>
     requires { has_float (view args) ≡ false }
-    ensures { IfOk result (λ line. line ≡ line_of tick (instant_data (codes "job " ++ decimal number
-        ++ codes " finished" ++ how.now) cat.now thread tick (view args))) }
+    ensures { IfOk result (λ line. line ≡ instant_line (codes "job " ++ decimal number
+        ++ codes " finished" ++ how.now) cat.now thread tick (view args)) }
 {
     let name = format!(in alloc; "job {number} finished{how}")?;
-    instant_line(alloc, &name, cat, thread, tick, args)
+    instant_line(alloc, &name, cat, thread, tick, &args)
 }
 
 /// Returns the line of the end of a job that took `took` ticks and was late by `late` ticks.
@@ -106,7 +106,7 @@ pub(crate) fn append_ends(
 fn refused_line(alloc: Global, thread: u64, tick: u64) -> Result<Line, AllocError>
     ensures { IfOk result (λ line. line ≡ refused_line thread tick) }
 {
-    instant_line(alloc, "refused", "refused", thread, tick, no_args(alloc)?)
+    instant_line(alloc, "refused", "refused", thread, tick, &no_args(alloc)?)
 }
 
 /// Appends a line for each tick of a stretch in which releases are refused.
@@ -149,7 +149,7 @@ fn arrival_line(alloc: Global, thread: u64, job: &ChartJob) -> Result<Line, Allo
     let number = job.number;
     let name = format!(in alloc; "job {number} comes")?;
     let args = came_args(alloc, job)?;
-    instant_line(alloc, &name, "arrival", thread, job.came, args)
+    instant_line(alloc, &name, "arrival", thread, job.came, &args)
 }
 
 /// Appends the arrival of a job, if the job came in the window.
@@ -191,7 +191,14 @@ pub(crate) fn append_arrivals(
 fn deadline_line(alloc: Global, thread: u64, tick: u64) -> Result<Line, AllocError>
     ensures { IfOk result (λ line. line ≡ deadline_line thread tick) }
 {
-    instant_line(alloc, "deadline", "deadline", thread, tick, no_args(alloc)?)
+    instant_line(
+        alloc,
+        "deadline",
+        "deadline",
+        thread,
+        tick,
+        &no_args(alloc)?,
+    )
 }
 
 /// Appends a line for each deadline.

@@ -13,6 +13,7 @@ use cbs_rate::Reservation;
 use cbs_rules::Mode;
 use cbsrun_chart::{Drawn, Window};
 use cbsrun_text::mode_word;
+use cbsrun_time_texts::append_time;
 use std::alloc::{AllocError, Global};
 
 /// Appends all events of a server.
@@ -39,20 +40,26 @@ pub(crate) fn append_events(
 #[tactic(auto, unfolding(crate::specs::Traces::title_text))]
 fn title_text(
     alloc: Global,
+    nanoseconds: Option<u64>,
     name: &str,
     reservation: Reservation,
     mode: Mode,
 ) -> Result<String, AllocError>
-    ensures { IfOk result (λ text. string_bytes text ≡ title_text name.now reservation mode) }
+    ensures { IfOk result (λ text. string_bytes text
+        ≡ title_text nanoseconds name.now reservation mode) }
 {
-    let budget = reservation.budget();
-    let period = reservation.period();
-    let mode = mode_word(mode);
-    format!(in alloc; "{name}, {budget} in every {period}, {mode}")
+    let mut text = String::from_str(alloc, name)?;
+    text.push_str(", ")?;
+    append_time(&mut text, nanoseconds, reservation.budget())?;
+    text.push_str(" in every ")?;
+    append_time(&mut text, nanoseconds, reservation.period())?;
+    text.push_str(", ")?;
+    text.push_str(mode_word(mode))?;
+    Ok(text)
 }
 
 /// Appends a line after another one.
-pub(crate) fn append_next(text: &mut String, line: &str) -> Result<(), AllocError>
+fn append_next(text: &mut String, line: &str) -> Result<(), AllocError>
     ensures { OnOk result (string_bytes text.new ≡ string_bytes text.old ++ next_text line.now) }
 {
     text.push_str(",\n")?;
@@ -64,14 +71,21 @@ pub(crate) fn append_next(text: &mut String, line: &str) -> Result<(), AllocErro
 pub(crate) fn append_server(
     alloc: Global,
     text: &mut String,
+    nanoseconds: Option<u64>,
     place: u64,
     drawn: &Drawn,
 ) -> Result<(), AllocError>
     requires { place < 2 ^ 64 - 1 }
     ensures { OnOk result (string_bytes text.new ≡ string_bytes text.old
-        ++ server_text place drawn.now) }
+        ++ server_text nanoseconds place drawn.now) }
 {
-    let title = title_text(alloc, &drawn.name, drawn.reservation, drawn.mode)?;
+    let title = title_text(
+        alloc,
+        nanoseconds,
+        &drawn.name,
+        drawn.reservation,
+        drawn.mode,
+    )?;
     let args = named_args(alloc, &title)?;
     let named = about_text(alloc, "thread_name", place + 1, args)?;
     append_next(text, &named)?;

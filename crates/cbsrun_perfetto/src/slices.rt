@@ -37,7 +37,7 @@ fn bar_line(
 {
     let name = format!(in alloc; "job {number}")?;
     let args = job_args(alloc, number, job_of(number, jobs, in_turn))?;
-    slice_line(alloc, &name, "run", thread, span, args)
+    slice_line(alloc, &name, "run", thread, span, &args)
 }
 
 /// Returns the line of ticks that are no bar, by what goes on in them.
@@ -45,7 +45,7 @@ fn bar_line(
 fn other_line(alloc: Global, thread: u64, what: &str, span: &Stretch) -> Result<Line, AllocError>
     ensures { IfOk result (λ line. line ≡ other_line thread what.now span.now) }
 {
-    slice_line(alloc, what, what, thread, span, no_args(alloc)?)
+    slice_line(alloc, what, what, thread, span, &no_args(alloc)?)
 }
 
 /// Appends the slice of a stretch, if the stretch has one.

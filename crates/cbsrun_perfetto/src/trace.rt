@@ -1,17 +1,20 @@
 //! The whole trace.
 
 ghost use Rattle.std.specs.Prelude.{◌≡◌, ◌++◌, IfOk, OnOk, string_bytes};
-ghost use Rattle.cbsrun_perfetto.specs.Traces.{AreInOrder, IsTrace, all_events, hidden_line, left_out_line, lines_text, opening_text, process_text, servers_text, trace_text};
+ghost use Rattle.cbsrun_perfetto.specs.Traces.{AreInOrder, IsTrace, all_events, hidden_line, left_out_line, lines_text, opening, opening_text, process_text, servers_text, trace_text};
 
-use crate::events::{about_text, hidden_text, left_out_text, named_args};
+use crate::events::{about_text, hidden_line, left_out_line, named_args};
 use crate::line::{Line, sort_lines};
-use crate::server::{append_events, append_next, append_server};
+use crate::server::{append_events, append_server};
+use crate::times::append_tick;
 use cbsrun_chart::{Drawn, Hidden, LeftOut, Picture, Window};
 use std::alloc::{AllocError, Global};
 
-/// The text before the events.
-pub(crate) const OPENING: &str =
-    "{\"displayTimeUnit\":\"ns\",\"otherData\":{\"unit\":\"a tick is a microsecond\"},\"traceEvents\":[\n";
+/// The text before how long a tick is.
+const BEFORE_TICK: &str = "{\"displayTimeUnit\":\"ns\",\"otherData\":{\"unit\":\"a tick is ";
+
+/// The text after it, up to the events.
+const AFTER_TICK: &str = "\"},\"traceEvents\":[\n";
 
 /// Returns the events of all servers.
 #[tactic(auto, unfolding(crate::specs::Traces::all_events))]
@@ -36,23 +39,33 @@ fn ordered_events(alloc: Global, window: Window, servers: &[Drawn]) -> Result<Ve
 
 /// Appends the descriptions of all servers.
 #[tactic(auto, unfolding(crate::specs::Traces::servers_text))]
-fn append_servers(alloc: Global, text: &mut String, servers: &[Drawn]) -> Result<(), AllocError>
+fn append_servers(
+    alloc: Global,
+    text: &mut String,
+    nanoseconds: Option<u64>,
+    servers: &[Drawn],
+) -> Result<(), AllocError>
     ensures { OnOk result (string_bytes text.new ≡ string_bytes text.old
-        ++ servers_text servers.now) }
+        ++ servers_text nanoseconds servers.now) }
 {
     for (place, server) in servers.iter().enumerate() {
-        append_server(alloc, text, place as u64, server)?;
+        append_server(alloc, text, nanoseconds, place as u64, server)?;
     }
     Ok(())
 }
 
 /// Appends events, each on a line of its own.
 #[tactic(auto, unfolding(crate::specs::Traces::lines_text))]
-fn append_lines(text: &mut String, lines: &[Line]) -> Result<(), AllocError>
-    ensures { OnOk result (string_bytes text.new ≡ string_bytes text.old ++ lines_text lines.now) }
+fn append_lines(
+    text: &mut String,
+    nanoseconds: Option<u64>,
+    lines: &[Line],
+) -> Result<(), AllocError>
+    ensures { OnOk result (string_bytes text.new ≡ string_bytes text.old
+        ++ lines_text nanoseconds lines.now) }
 {
     for line in lines {
-        append_next(text, line.text())?;
+        line.append(text, nanoseconds)?;
     }
     Ok(())
 }
@@ -66,13 +79,28 @@ fn process_text(alloc: Global, file: &str) -> Result<String, AllocError>
     about_text(alloc, "process_name", 0, args)
 }
 
-/// Appends the opening of the document, with the name of the file.
+/// Appends the text before the events, around how long a tick is.
+fn append_heading(text: &mut String, nanoseconds: Option<u64>) -> Result<(), AllocError>
+    ensures { OnOk result (string_bytes text.new ≡ string_bytes text.old ++ opening nanoseconds) }
+{
+    text.push_str(BEFORE_TICK)?;
+    append_tick(text, nanoseconds)?;
+    text.push_str(AFTER_TICK)
+}
+
+/// Appends the opening of the document, with how long a tick is, and the name of the file.
 #[tactic(auto, unfolding(crate::specs::Traces::opening_text))]
-fn append_opening(alloc: Global, text: &mut String, file: &str) -> Result<(), AllocError>
-    ensures { OnOk result (string_bytes text.new ≡ string_bytes text.old ++ opening_text file.now) }
+fn append_opening(
+    alloc: Global,
+    text: &mut String,
+    nanoseconds: Option<u64>,
+    file: &str,
+) -> Result<(), AllocError>
+    ensures { OnOk result (string_bytes text.new ≡ string_bytes text.old
+        ++ opening_text nanoseconds file.now) }
 {
     let process = process_text(alloc, file)?;
-    text.push_str(OPENING)?;
+    append_heading(text, nanoseconds)?;
     text.push_str(&process)
 }
 
@@ -80,34 +108,34 @@ fn append_opening(alloc: Global, text: &mut String, file: &str) -> Result<(), Al
 fn append_hidden(
     alloc: Global,
     text: &mut String,
+    nanoseconds: Option<u64>,
     tick: u64,
     hidden: Option<Hidden>,
 ) -> Result<(), AllocError>
     ensures { OnOk result (string_bytes text.new ≡ string_bytes text.old
-        ++ hidden_line tick hidden) }
+        ++ hidden_line nanoseconds tick hidden) }
 {
-    let Some(hidden) = hidden else {
-        return Ok(());
-    };
-    let event = hidden_text(alloc, tick, hidden)?;
-    append_next(text, &event)
+    match hidden {
+        Some(hidden) => hidden_line(alloc, tick, hidden)?.append(text, nanoseconds),
+        None => Ok(()),
+    }
 }
 
 /// Appends how many servers are not drawn, if there are any. The first tick that is shown is `tick`.
 fn append_left_out(
     alloc: Global,
     text: &mut String,
+    nanoseconds: Option<u64>,
     tick: u64,
     left_out: Option<LeftOut>,
 ) -> Result<(), AllocError>
     ensures { OnOk result (string_bytes text.new ≡ string_bytes text.old
-        ++ left_out_line tick left_out) }
+        ++ left_out_line nanoseconds tick left_out) }
 {
-    let Some(left_out) = left_out else {
-        return Ok(());
-    };
-    let event = left_out_text(alloc, tick, left_out)?;
-    append_next(text, &event)
+    match left_out {
+        Some(left_out) => left_out_line(alloc, tick, left_out)?.append(text, nanoseconds),
+        None => Ok(()),
+    }
 }
 
 /// Returns a trace with these events, in this order.
@@ -115,17 +143,20 @@ fn append_left_out(
 fn trace_text(alloc: Global, picture: &Picture, lines: &[Line]) -> Result<String, AllocError>
     ensures { IfOk result (λ text. string_bytes text ≡ trace_text picture.now lines.now) }
 {
+    let tick = picture.tick;
+    let from = picture.window.from;
     let mut text = String::new(alloc);
-    append_opening(alloc, &mut text, &picture.file)?;
-    append_servers(alloc, &mut text, &picture.servers)?;
-    append_hidden(alloc, &mut text, picture.window.from, picture.hidden())?;
-    append_left_out(alloc, &mut text, picture.window.from, picture.left_out())?;
-    append_lines(&mut text, lines)?;
+    append_opening(alloc, &mut text, tick, &picture.file)?;
+    append_servers(alloc, &mut text, tick, &picture.servers)?;
+    append_hidden(alloc, &mut text, tick, from, picture.hidden())?;
+    append_left_out(alloc, &mut text, tick, from, picture.left_out())?;
+    append_lines(&mut text, tick, lines)?;
     text.push_str("\n]}\n")?;
     Ok(text)
 }
 
-/// Returns a picture as a trace, in the Trace Event Format. A tick is a microsecond. The only error is out of memory.
+/// Returns a picture as a trace, in the Trace Event Format. Its times are in microseconds. A tick is one of these, if the
+/// picture does not say how long a tick is. The only error is out of memory.
 pub fn trace_json(alloc: Global, picture: &Picture) -> Result<String, AllocError>
     ensures { IfOk result (λ text. IsTrace picture.now (string_bytes text)) }
 {

@@ -46,6 +46,7 @@ picture_same name a b c p same h = let k = rw same at h in record {
   reserved = k.reserved;
   window = k.window;
   end = k.end;
+  tick = k.tick;
   idle = k.idle;
   others = k.others;
   names = k.names;

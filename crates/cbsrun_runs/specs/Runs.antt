@@ -79,6 +79,7 @@ pub record IsChartPicture (name : List ℕ) (r : Shown) (c : Chart) (p : Picture
       ≡ record { ticks = sum_by (share (common_multiple r.plan.rates)) r.plan.rates; of = common_multiple r.plan.rates }
   pub window : p.window ≡ c.window
   pub end : p.end ≡ c.end
+  pub tick : p.tick ≡ r.tick
   pub idle : p.idle ≡ c.idle
   pub others : p.others ≡ 0
   pub names : map (λ d. string_bytes d.name) p.servers.items ≡ r.names

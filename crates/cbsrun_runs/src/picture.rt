@@ -85,6 +85,7 @@ fn picture_of_chart<R: Run>(
         reserved: run.plan().bandwidth(),
         window,
         end,
+        tick: run.tick(),
         idle,
         servers,
         others: 0,

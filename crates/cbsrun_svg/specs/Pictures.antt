@@ -1,5 +1,5 @@
 -- The whole picture.
-use Rattle.std.specs.Prelude.{ℕ, ◌+◌, ◌-◌, ◌*◌, ◌/◌, eqb, ltb, max, min, if◌then◌else◌, List, [], ◌∷◌, ◌++◌, codes, decimal, flat_map, length, string_bytes}
+use Rattle.std.specs.Prelude.{ℕ, ◌+◌, ◌-◌, ◌*◌, ◌/◌, eqb, ltb, max, min, if◌then◌else◌, List, [], ◌∷◌, ◌++◌, codes, decimal, flat_map, length, string_bytes, Option}
 use Rattle.cbsrun_window.specs.Counts.{counts_of}
 use Rattle.cbsrun_chart.specs.declared.picture.Drawn.{Drawn}
 use Rattle.cbsrun_chart.specs.declared.picture.Picture.{Picture}
@@ -16,19 +16,19 @@ use Rattle.cbsrun_svg_shapes.specs.declared.columns.Layer.TheVariants.{Idle}
 use Rattle.cbsrun_svg.specs.declared.style.TheConstants.{STYLE, LEGEND, CHARGED_LEGEND, CHARGED_FILL_LEGEND, BUDGET_LEGEND, COLUMN_LEGEND}
 
 -- the width of a server's words; of each word at most 40 letters count
-abbrev pub words_width : ℕ → Drawn → ℕ
-words_width servers d =
-    if ltb 8 servers then 2800 + 800 * min 40 (length (string_bytes d.name)) + 620 * min 40 (length (short_terms_text d.reservation d.mode))
-    else max (2400 + 870 * min 40 (length (string_bytes d.name))) (4000 + 620 * min 40 (length (terms_text d.reservation)))
+abbrev pub words_width : Option ℕ → ℕ → Drawn → ℕ
+words_width n servers d =
+    if ltb 8 servers then 2800 + 800 * min 40 (length (string_bytes d.name)) + 620 * min 40 (length (short_terms_text n d.reservation d.mode))
+    else max (2400 + 870 * min 40 (length (string_bytes d.name))) (4000 + 620 * min 40 (length (terms_text n d.reservation)))
 
 -- the left edge of the axis, which leaves room for the widest words
-abbrev pub left_of : ℕ → List Drawn → ℕ
-left_of servers [] = 15000
-left_of servers (d ∷ ds) = max (words_width servers d) (left_of servers ds)
+abbrev pub left_of : Option ℕ → ℕ → List Drawn → ℕ
+left_of n servers [] = 15000
+left_of n servers (d ∷ ds) = max (words_width n servers d) (left_of n servers ds)
 
 -- where the parts of a picture stand: its axis, its rows, and the line of its scale
 abbrev pub axis_for : Picture → AxisSeen
-axis_for p = axis_of p.window (left_of (length p.servers.items) p.servers.items)
+axis_for p = axis_of p.window (left_of p.tick (length p.servers.items) p.servers.items)
 
 abbrev pub layout_for : Picture → Layout
 layout_for p = layout_of (length p.servers.items) (axis_for p)
@@ -53,20 +53,21 @@ unfoldable pub title_text : List ℕ → List ℕ
 title_text heading = codes "<title id=\"what\">" ++ heading ++ codes "</title>\n"
 
 -- the sentence of a server, and the sentences of all servers
-abbrev pub server_sentence : Window → Drawn → List ℕ
-server_sentence w d = sentence_text w (escaped (string_bytes d.name)) d
+abbrev pub server_sentence : Option ℕ → Window → Drawn → List ℕ
+server_sentence n w d = sentence_text n w (escaped (string_bytes d.name)) d
 
-unfoldable pub sentences_text : Window → List Drawn → List ℕ
-sentences_text w servers = flat_map (server_sentence w) servers
+unfoldable pub sentences_text : Option ℕ → Window → List Drawn → List ℕ
+sentences_text n w servers = flat_map (server_sentence n w) servers
 
 -- the description of what a picture shows, which is read aloud
-unfoldable pub description_text : Window → List ℕ → List Drawn → List ℕ
-description_text w summary servers = codes "<desc id=\"how\">" ++ summary ++ codes "\n" ++ sentences_text w servers ++ codes "</desc>\n"
+unfoldable pub description_text : Picture → List ℕ → List ℕ
+description_text p summary =
+    codes "<desc id=\"how\">" ++ summary ++ codes "\n" ++ sentences_text p.tick p.window p.servers.items ++ codes "</desc>\n"
 
 -- the opening tag, the title, the description, the style and the page
-unfoldable pub words_text : ℕ → ℕ → Window → List ℕ → List ℕ → List Drawn → List ℕ
-words_text left scale w heading summary servers =
-    opening_text left scale ++ title_text heading ++ description_text w summary servers ++ STYLE.now ++ page_text left scale
+unfoldable pub words_text : ℕ → ℕ → List ℕ → List ℕ → Picture → List ℕ
+words_text left scale heading summary p =
+    opening_text left scale ++ title_text heading ++ description_text p summary ++ STYLE.now ++ page_text left scale
 
 -- the legend of the course of a budget, if budgets are drawn
 unfoldable pub budget_legend : Layout → List ℕ
@@ -97,18 +98,18 @@ units_heading a charged =
 
 -- faint lines through all rows at the numbered ticks, and the heading of the units. If there are many rows, the numbers
 -- stand once more above them
-unfoldable pub grid_text : AxisSeen → Layout → ℕ → List ℕ → ℕ → List ℕ
-grid_text a l scale ts charged =
-    path_text (codes "grid") (uprights_text a 10500 scale ts) ++ units_heading a charged ++ (if l.compact then numbers_text a 10200 ts else [])
+unfoldable pub grid_text : Option ℕ → AxisSeen → Layout → ℕ → List ℕ → ℕ → List ℕ
+grid_text n a l scale ts charged =
+    path_text (codes "grid") (uprights_text a 10500 scale ts) ++ units_heading a charged ++ (if l.compact then numbers_text n a 10200 ts else [])
 
 -- the row of a server
-abbrev pub server_row : AxisSeen → Layout → Window → ℕ → Drawn → List ℕ
-server_row a l w top d = row_text a l w top (escaped (string_bytes d.name)) d.mode d
+abbrev pub server_row : Option ℕ → AxisSeen → Layout → Window → ℕ → Drawn → List ℕ
+server_row n a l w top d = row_text n a l w top (escaped (string_bytes d.name)) d.mode d
 
 -- all rows, one below another
-unfoldable pub rows_text : AxisSeen → Layout → Window → ℕ → List Drawn → List ℕ
-rows_text a l w top [] = []
-rows_text a l w top (d ∷ ds) = server_row a l w top d ++ rows_text a l w (top + l.row) ds
+unfoldable pub rows_text : Option ℕ → AxisSeen → Layout → Window → ℕ → List Drawn → List ℕ
+rows_text n a l w top [] = []
+rows_text n a l w top (d ∷ ds) = server_row n a l w top d ++ rows_text n a l w (top + l.row) ds
 
 -- the ticks in which nobody runs, drawn tick by tick
 unfoldable pub idle_boxes : AxisSeen → ℕ → List Stretch → List ℕ
@@ -127,15 +128,16 @@ idle_text a l w scale ps =
 -- all rows, with the grid, idle line and scale around them
 unfoldable pub body_text : AxisSeen → Layout → Window → ℕ → List ℕ → Picture → List ℕ
 body_text a l w scale ts p =
-    grid_text a l scale ts (all_charged w p.servers.items) ++ rows_text a l w 11000 p.servers.items ++ idle_text a l w scale p.idle.items ++ scale_text a scale ts ++ codes "</svg>\n"
+    grid_text p.tick a l scale ts (all_charged w p.servers.items) ++ rows_text p.tick a l w 11000 p.servers.items ++ idle_text a l w scale p.idle.items
+    ++ scale_text p.tick a scale ts ++ codes "</svg>\n"
 
 -- the text of a picture on an axis
 unfoldable pub drawn_text : AxisSeen → Layout → List ℕ → List ℕ → Picture → List ℕ
 drawn_text a l heading summary p =
-    words_text a.left (scale_of (length p.servers.items) l) p.window heading summary p.servers.items ++ top_text a l heading summary
-    ++ body_text a l p.window (scale_of (length p.servers.items) l) (ticks_numbered a p.window) p
+    words_text a.left (scale_of (length p.servers.items) l) heading summary p ++ top_text a l heading summary
+    ++ body_text a l p.window (scale_of (length p.servers.items) l) (ticks_numbered p.tick a p.window) p
 
 -- the text of a picture
 abbrev pub svg_text : Picture → List ℕ
 svg_text p =
-    drawn_text (axis_for p) (layout_for p) (heading_text (escaped (string_bytes p.file)) p.window) (summary_text p (axis_for p).cell) p
+    drawn_text (axis_for p) (layout_for p) (heading_text p.tick (escaped (string_bytes p.file)) p.window) (summary_text p (axis_for p).cell) p

@@ -1,24 +1,49 @@
 //! The words of a picture that stand around its rows.
 
 ghost use Rattle.std.specs.Prelude.{◌≡◌, ◌+◌, ◌≤◌, ◌++◌, IfOk, OnOk, count_by, string_bytes};
-ghost use Rattle.cbsrun_svg.specs.Heads.{all_charged, all_units, came_text, charges_text, column_text, figures_text, heading_text, hidden_part, is_late, left_out_part, sentence_text, servers_text, summary_text, tenths_of, was_charged_text, who_text};
+ghost use Rattle.cbsrun_svg.specs.Heads.{all_charged, all_units, came_text, charges_text, column_text, figures_text, heading_text, hidden_part, is_late, left_out_part, sentence_text, servers_text, summary_text, tenths_of, times_part, was_charged_text, who_text};
 
 use crate::row::{charged_of, terms_text, units_of};
 use cbs_rate::Bandwidth;
 use cbsrun_chart::{ChartJob, Counts, Drawn, Hidden, LeftOut, Picture, Window};
 use cbsrun_figures::exceeds;
+use cbsrun_svg_shapes::append_from_to;
 use cbsrun_text::mode_word;
+use cbsrun_time_texts::append_ticks;
 use std::alloc::{AllocError, Global};
 use std::fmt::Write;
 
+/// Appends the ticks that are shown in milliseconds, too, if the nanoseconds of a tick are known.
+fn append_times(
+    text: &mut String,
+    nanoseconds: Option<u64>,
+    window: Window,
+) -> Result<(), AllocError>
+    ensures { OnOk result (string_bytes text.new ≡ string_bytes text.old
+        ++ times_part nanoseconds window) }
+{
+    if nanoseconds.is_none() {
+        return Ok(());
+    }
+    text.push_str(", ")?;
+    append_from_to(text, nanoseconds, window.from, window.to)
+}
+
 /// Returns the heading: the name of a file, and the ticks that are shown.
 #[tactic(auto, unfolding(crate::specs::Heads::heading_text))]
-pub(crate) fn heading_text(alloc: Global, file: &str, window: Window) -> Result<String, AllocError>
-    ensures { IfOk result (λ text. string_bytes text ≡ heading_text file.now window) }
+pub(crate) fn heading_text(
+    alloc: Global,
+    nanoseconds: Option<u64>,
+    file: &str,
+    window: Window,
+) -> Result<String, AllocError>
+    ensures { IfOk result (λ text. string_bytes text ≡ heading_text nanoseconds file.now window) }
 {
-    let from = window.from;
-    let to = window.to;
-    format!(in alloc; "{file}, ticks {from} to {to}")
+    let mut text = String::from_str(alloc, file)?;
+    text.push_str(", ")?;
+    append_from_to(&mut text, None, window.from, window.to)?;
+    append_times(&mut text, nanoseconds, window)?;
+    Ok(text)
 }
 
 /// Appends how many servers there are.
@@ -64,13 +89,19 @@ pub(crate) fn all_charged(window: Window, servers: &[Drawn]) -> u64
 
 /// Appends how many ticks were charged, if there are any.
 #[tactic(auto, unfolding(crate::specs::Heads::charges_text))]
-fn append_charges(text: &mut String, charged: u64) -> Result<(), AllocError>
-    ensures { OnOk result (string_bytes text.new ≡ string_bytes text.old ++ charges_text charged) }
+fn append_charges(
+    text: &mut String,
+    nanoseconds: Option<u64>,
+    charged: u64,
+) -> Result<(), AllocError>
+    ensures { OnOk result (string_bytes text.new ≡ string_bytes text.old
+        ++ charges_text nanoseconds charged) }
 {
     if charged == 0 {
         return Ok(());
     }
-    write!(text, "{charged} ticks charged, ")
+    append_ticks(text, nanoseconds, charged)?;
+    text.push_str(" charged, ")
 }
 
 /// Appends how many servers there are, what share of the time is reserved, how many units ran, and how many ticks were
@@ -78,6 +109,7 @@ fn append_charges(text: &mut String, charged: u64) -> Result<(), AllocError>
 #[tactic(auto, unfolding(crate::specs::Heads::figures_text))]
 fn append_figures(
     text: &mut String,
+    nanoseconds: Option<u64>,
     servers: usize,
     reserved: Bandwidth,
     units: u64,
@@ -85,7 +117,7 @@ fn append_figures(
     idle: u64,
 ) -> Result<(), AllocError>
     ensures { OnOk result (string_bytes text.new ≡ string_bytes text.old
-        ++ figures_text servers reserved units charged idle) }
+        ++ figures_text nanoseconds servers reserved units charged idle) }
 {
     append_servers(text, servers)?;
     let tenths = tenths_of(reserved);
@@ -95,8 +127,9 @@ fn append_figures(
         text,
         " with {whole}.{tenth} % of the time reserved. {units} units run, "
     )?;
-    append_charges(text, charged)?;
-    write!(text, "{idle} ticks idle.")
+    append_charges(text, nanoseconds, charged)?;
+    append_ticks(text, nanoseconds, idle)?;
+    text.push_str(" idle.")
 }
 
 /// Appends how many ticks of the run are not shown, if there are any.
@@ -122,13 +155,16 @@ fn append_left_out(text: &mut String, left_out: Option<LeftOut>) -> Result<(), A
 
 /// Appends how many ticks a column has, if it has more than one.
 #[tactic(auto, unfolding(crate::specs::Heads::column_text))]
-fn append_column(text: &mut String, cell: u64) -> Result<(), AllocError>
-    ensures { OnOk result (string_bytes text.new ≡ string_bytes text.old ++ column_text cell) }
+fn append_column(text: &mut String, nanoseconds: Option<u64>, cell: u64) -> Result<(), AllocError>
+    ensures { OnOk result (string_bytes text.new ≡ string_bytes text.old
+        ++ column_text nanoseconds cell) }
 {
     if cell <= 1 {
         return Ok(());
     }
-    write!(text, " Each column is {cell} ticks.")
+    text.push_str(" Each column is ")?;
+    append_ticks(text, nanoseconds, cell)?;
+    text.push_str(".")
 }
 
 /// Returns the line below the heading: the figures of the run, and what is not shown of it.
@@ -147,6 +183,7 @@ pub(crate) fn summary_text(
     let mut text = String::new(alloc);
     append_figures(
         &mut text,
+        picture.tick,
         picture.servers.len(),
         picture.reserved,
         units,
@@ -155,7 +192,7 @@ pub(crate) fn summary_text(
     )?;
     append_hidden(&mut text, picture.hidden())?;
     append_left_out(&mut text, picture.left_out())?;
-    append_column(&mut text, cell)?;
+    append_column(&mut text, picture.tick, cell)?;
     Ok(text)
 }
 
@@ -180,20 +217,26 @@ fn late_jobs(window: Window, jobs: &[ChartJob]) -> usize
 
 /// Appends how many ticks a server was charged, if there are any.
 #[tactic(auto, unfolding(crate::specs::Heads::was_charged_text))]
-fn append_was_charged(text: &mut String, charged: u64) -> Result<(), AllocError>
+fn append_was_charged(
+    text: &mut String,
+    nanoseconds: Option<u64>,
+    charged: u64,
+) -> Result<(), AllocError>
     ensures { OnOk result (string_bytes text.new ≡ string_bytes text.old
-        ++ was_charged_text charged) }
+        ++ was_charged_text nanoseconds charged) }
 {
     if charged == 0 {
         return Ok(());
     }
-    write!(text, ", was charged {charged} ticks")
+    text.push_str(", was charged ")?;
+    append_ticks(text, nanoseconds, charged)
 }
 
 /// Appends a server's name, mode and reservation, how many of its units ran, and how many ticks it was charged.
 #[tactic(auto, unfolding(crate::specs::Heads::who_text))]
 fn append_who(
     text: &mut String,
+    nanoseconds: Option<u64>,
     name: &str,
     mode: &str,
     terms: &str,
@@ -201,10 +244,10 @@ fn append_who(
     charged: u64,
 ) -> Result<(), AllocError>
     ensures { OnOk result (string_bytes text.new ≡ string_bytes text.old
-        ++ who_text name.now mode.now terms.now units charged) }
+        ++ who_text nanoseconds name.now mode.now terms.now units charged) }
 {
     write!(text, "{name}, {mode}, {terms}: ran {units} units")?;
-    append_was_charged(text, charged)
+    append_was_charged(text, nanoseconds, charged)
 }
 
 /// Appends how many of a server's jobs came, were refused, were finished, and were late.
@@ -230,17 +273,19 @@ fn append_came(
 pub(crate) fn append_sentence(
     alloc: Global,
     text: &mut String,
+    nanoseconds: Option<u64>,
     window: Window,
     name: &str,
     drawn: &Drawn,
 ) -> Result<(), AllocError>
     ensures { OnOk result (string_bytes text.new ≡ string_bytes text.old
-        ++ sentence_text window name.now drawn.now) }
+        ++ sentence_text nanoseconds window name.now drawn.now) }
 {
     let chart = &drawn.chart;
-    let terms = terms_text(alloc, drawn.reservation)?;
+    let terms = terms_text(alloc, nanoseconds, drawn.reservation)?;
     append_who(
         text,
+        nanoseconds,
         name,
         mode_word(drawn.mode),
         &terms,

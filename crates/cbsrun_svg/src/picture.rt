@@ -20,27 +20,32 @@ use std::alloc::{AllocError, Global};
 use std::fmt::Write;
 
 /// Returns the width of a server's words, at most 100,000.
-fn words_width(alloc: Global, servers: usize, drawn: &Drawn) -> Result<u64, AllocError>
-    ensures value { IfOk result (λ width. width ≡ words_width servers drawn.now) }
+fn words_width(
+    alloc: Global,
+    nanoseconds: Option<u64>,
+    servers: usize,
+    drawn: &Drawn,
+) -> Result<u64, AllocError>
+    ensures value { IfOk result (λ width. width ≡ words_width nanoseconds servers drawn.now) }
     ensures small { IfOk result (λ width. width ≤ 100000) }
 {
     let letters = (drawn.name.len() as u64).min(40);
     if servers > 8 {
-        let terms = short_terms_text(alloc, drawn.reservation, drawn.mode)?;
+        let terms = short_terms_text(alloc, nanoseconds, drawn.reservation, drawn.mode)?;
         return Ok(2800 + 800 * letters + 620 * (terms.len() as u64).min(40));
     }
-    let terms = terms_text(alloc, drawn.reservation)?;
+    let terms = terms_text(alloc, nanoseconds, drawn.reservation)?;
     Ok((2400 + 870 * letters).max(4000 + 620 * (terms.len() as u64).min(40)))
 }
 
 /// Returns the left edge of the axis, which leaves room for the widest words.
-fn left_of(alloc: Global, servers: &[Drawn]) -> Result<u64, AllocError>
-    ensures value { IfOk result (λ left. left ≡ left_of (length servers.now) servers.now) }
+fn left_of(alloc: Global, nanoseconds: Option<u64>, servers: &[Drawn]) -> Result<u64, AllocError>
+    ensures value { IfOk result (λ left. left ≡ left_of nanoseconds (length servers.now) servers.now) }
     ensures small { IfOk result (λ left. left ≤ 100000) }
 {
     let mut left = 15_000;
     for server in servers {
-        left = words_width(alloc, servers.len(), server)?.max(left);
+        left = words_width(alloc, nanoseconds, servers.len(), server)?.max(left);
     }
     Ok(left)
 }
@@ -91,14 +96,15 @@ fn append_title(text: &mut String, heading: &str) -> Result<(), AllocError>
 fn append_server_sentence(
     alloc: Global,
     text: &mut String,
+    nanoseconds: Option<u64>,
     window: Window,
     drawn: &Drawn,
 ) -> Result<(), AllocError>
     ensures { OnOk result (string_bytes text.new ≡ string_bytes text.old
-        ++ server_sentence window drawn.now) }
+        ++ server_sentence nanoseconds window drawn.now) }
 {
     let name = escaped(alloc, &drawn.name)?;
-    append_sentence(alloc, text, window, &name, drawn)
+    append_sentence(alloc, text, nanoseconds, window, &name, drawn)
 }
 
 /// Appends the sentences of all servers.
@@ -106,14 +112,15 @@ fn append_server_sentence(
 fn append_sentences(
     alloc: Global,
     text: &mut String,
+    nanoseconds: Option<u64>,
     window: Window,
     servers: &[Drawn],
 ) -> Result<(), AllocError>
     ensures { OnOk result (string_bytes text.new ≡ string_bytes text.old
-        ++ sentences_text window servers.now) }
+        ++ sentences_text nanoseconds window servers.now) }
 {
     for server in servers {
-        append_server_sentence(alloc, text, window, server)?;
+        append_server_sentence(alloc, text, nanoseconds, window, server)?;
     }
     Ok(())
 }
@@ -123,15 +130,14 @@ fn append_sentences(
 fn append_description(
     alloc: Global,
     text: &mut String,
-    window: Window,
     summary: &str,
-    servers: &[Drawn],
+    picture: &Picture,
 ) -> Result<(), AllocError>
     ensures { OnOk result (string_bytes text.new ≡ string_bytes text.old
-        ++ description_text window summary.now servers.now) }
+        ++ description_text picture.now summary.now) }
 {
     writeln!(text, "<desc id=\"how\">{summary}")?;
-    append_sentences(alloc, text, window, servers)?;
+    append_sentences(alloc, text, picture.tick, picture.window, &picture.servers)?;
     writeln!(text, "</desc>")
 }
 
@@ -142,19 +148,18 @@ fn append_words(
     text: &mut String,
     left: u64,
     scale: u64,
-    window: Window,
     heading: &str,
     summary: &str,
-    servers: &[Drawn],
+    picture: &Picture,
 ) -> Result<(), AllocError>
     requires left { left ≤ 100000 }
     requires scale { scale ≤ 1000000 }
     ensures { OnOk result (string_bytes text.new ≡ string_bytes text.old
-        ++ words_text left scale window heading.now summary.now servers.now) }
+        ++ words_text left scale heading.now summary.now picture.now) }
 {
     append_opening(text, left, scale)?;
     append_title(text, heading)?;
-    append_description(alloc, text, window, summary, servers)?;
+    append_description(alloc, text, summary, picture)?;
     text.push_str(STYLE)?;
     append_page(text, left, scale)
 }
@@ -241,6 +246,7 @@ fn append_units_heading(text: &mut String, axis: &Axis, charged: u64) -> Result<
 fn append_grid(
     alloc: Global,
     text: &mut String,
+    nanoseconds: Option<u64>,
     axis: &Axis,
     layout: &Layout,
     scale: u64,
@@ -248,14 +254,14 @@ fn append_grid(
     charged: u64,
 ) -> Result<(), AllocError>
     ensures { OnOk result (string_bytes text.new ≡ string_bytes text.old
-        ++ grid_text axis.now layout.now scale ticks.now charged) }
+        ++ grid_text nanoseconds axis.now layout.now scale ticks.now charged) }
 {
     let mut shape = String::new(alloc);
     append_uprights(&mut shape, axis, 10_500, scale, ticks)?;
     append_path(text, "grid", &shape)?;
     append_units_heading(text, axis, charged)?;
     if layout.compact {
-        append_numbers(alloc, text, axis, 10_200, ticks)?;
+        append_numbers(alloc, text, nanoseconds, axis, 10_200, ticks)?;
     }
     Ok(())
 }
@@ -264,6 +270,7 @@ fn append_grid(
 fn append_server_row(
     alloc: Global,
     text: &mut String,
+    nanoseconds: Option<u64>,
     axis: &Axis,
     layout: &Layout,
     window: Window,
@@ -271,7 +278,7 @@ fn append_server_row(
     drawn: &Drawn,
 ) -> Result<(), AllocError>
     ensures { OnOk result (string_bytes text.new ≡ string_bytes text.old
-        ++ server_row axis.now layout.now window top drawn.now) }
+        ++ server_row nanoseconds axis.now layout.now window top drawn.now) }
 {
     let name = escaped(alloc, &drawn.name)?;
     let place = Place {
@@ -279,6 +286,7 @@ fn append_server_row(
         layout: *layout,
         mode: drawn.mode,
         name: &name,
+        tick: nanoseconds,
     };
     append_row(alloc, text, &place, window, top, drawn)
 }
@@ -287,6 +295,7 @@ fn append_server_row(
 fn append_rows(
     alloc: Global,
     text: &mut String,
+    nanoseconds: Option<u64>,
     axis: &Axis,
     layout: &Layout,
     window: Window,
@@ -294,11 +303,11 @@ fn append_rows(
 ) -> Result<(), AllocError>
     requires { length servers.now ≤ 64 }
     ensures { OnOk result (string_bytes text.new ≡ string_bytes text.old
-        ++ rows_text axis.now layout.now window 11000 servers.now) }
+        ++ rows_text nanoseconds axis.now layout.now window 11000 servers.now) }
 {
     let mut top = 11_000u64;
     for server in servers {
-        append_server_row(alloc, text, axis, layout, window, top, server)?;
+        append_server_row(alloc, text, nanoseconds, axis, layout, window, top, server)?;
         top += layout.row;
     }
     Ok(())
@@ -392,10 +401,11 @@ fn append_body(
 {
     let window = picture.window;
     let charged = all_charged(window, &picture.servers);
-    append_grid(alloc, text, axis, layout, scale, ticks, charged)?;
-    append_rows(alloc, text, axis, layout, window, &picture.servers)?;
+    let tick = picture.tick;
+    append_grid(alloc, text, tick, axis, layout, scale, ticks, charged)?;
+    append_rows(alloc, text, tick, axis, layout, window, &picture.servers)?;
     append_idle(alloc, text, axis, layout, window, scale, &picture.idle)?;
-    append_scale(alloc, text, axis, scale, ticks)?;
+    append_scale(alloc, text, tick, axis, scale, ticks)?;
     text.push_str("</svg>\n")
 }
 
@@ -423,17 +433,16 @@ fn drawn_text(
         ≡ drawn_text axis.now layout.now heading.now summary.now picture.now) }
 {
     let scale = scale_of(picture.servers.len(), layout);
-    let ticks = ticks_of(alloc, axis, picture.window)?;
+    let ticks = ticks_of(alloc, picture.tick, axis, picture.window)?;
     let mut text = String::new(alloc);
     append_words(
         alloc,
         &mut text,
         axis.left(),
         scale,
-        picture.window,
         heading,
         summary,
-        &picture.servers,
+        picture,
     )?;
     append_top(&mut text, axis, layout, heading, summary)?;
     append_body(alloc, &mut text, axis, layout, scale, &ticks, picture)?;
@@ -446,10 +455,13 @@ pub fn svg_text(alloc: Global, picture: &Picture) -> Result<String, AllocError>
     requires short { IsShort picture.now.window }
     ensures { IfOk result (λ text. string_bytes text ≡ svg_text picture.now) }
 {
-    let axis = Axis::of(picture.window, left_of(alloc, &picture.servers)?);
+    let axis = Axis::of(
+        picture.window,
+        left_of(alloc, picture.tick, &picture.servers)?,
+    );
     let layout = Layout::of(picture.servers.len(), &axis);
     let file = escaped(alloc, &picture.file)?;
-    let heading = heading_text(alloc, &file, picture.window)?;
+    let heading = heading_text(alloc, picture.tick, &file, picture.window)?;
     let summary = summary_text(alloc, picture, axis.cell())?;
     drawn_text(alloc, &axis, &layout, &heading, &summary, picture)
 }

@@ -8,10 +8,11 @@ use cbs_rules::Mode;
 use cbsrun_chart::{Counts, Drawn, ServerChart, Stretch, Window};
 use cbsrun_svg_shapes::{
     Axis, Layer, Layout, Place, append_arrivals, append_budget, append_columns, append_completions,
-    append_deadlines, append_label, append_late, append_pale, append_path, append_refused,
-    append_span, append_titled, bar_class, cell_counts, heights_of,
+    append_deadlines, append_from_to, append_label, append_late, append_pale, append_path,
+    append_refused, append_span, append_titled, bar_class, cell_counts, heights_of,
 };
 use cbsrun_text::mode_word;
+use cbsrun_time_texts::append_time;
 use std::alloc::{AllocError, Global};
 use std::fmt::Write;
 
@@ -43,27 +44,37 @@ fn text_line(layout: &Layout) -> u64
 
 /// Returns a reservation in its long form.
 #[tactic(auto, unfolding(crate::specs::Rows::terms_text))]
-pub(crate) fn terms_text(alloc: Global, reservation: Reservation) -> Result<String, AllocError>
-    ensures { IfOk result (λ text. string_bytes text ≡ terms_text reservation) }
+pub(crate) fn terms_text(
+    alloc: Global,
+    tick: Option<u64>,
+    reservation: Reservation,
+) -> Result<String, AllocError>
+    ensures { IfOk result (λ text. string_bytes text ≡ terms_text tick reservation) }
 {
-    let budget = reservation.budget();
-    let period = reservation.period();
-    format!(in alloc; "{budget} in every {period}")
+    let mut text = String::new(alloc);
+    append_time(&mut text, tick, reservation.budget())?;
+    text.push_str(" in every ")?;
+    append_time(&mut text, tick, reservation.period())?;
+    Ok(text)
 }
 
 /// Returns a reservation and a mode in their short form.
 #[tactic(auto, unfolding(crate::specs::Rows::short_terms_text))]
 pub(crate) fn short_terms_text(
     alloc: Global,
+    tick: Option<u64>,
     reservation: Reservation,
     mode: Mode,
 ) -> Result<String, AllocError>
-    ensures { IfOk result (λ text. string_bytes text ≡ short_terms_text reservation mode) }
+    ensures { IfOk result (λ text. string_bytes text ≡ short_terms_text tick reservation mode) }
 {
-    let budget = reservation.budget();
-    let period = reservation.period();
-    let mode = mode_word(mode);
-    format!(in alloc; "{budget} in {period} {mode}")
+    let mut text = String::new(alloc);
+    append_time(&mut text, tick, reservation.budget())?;
+    text.push_str(" in ")?;
+    append_time(&mut text, tick, reservation.period())?;
+    text.push_str(" ")?;
+    text.push_str(mode_word(mode))?;
+    Ok(text)
 }
 
 /// Appends the name, the reservation and the mode of a server.
@@ -75,13 +86,13 @@ fn append_names(
     reservation: Reservation,
 ) -> Result<(), AllocError>
     ensures { OnOk result (string_bytes text.new ≡ string_bytes text.old
-        ++ names_text place.now.axis place.now.layout place.now.name.now reservation
+        ++ names_text place.now.tick place.now.axis place.now.layout place.now.name.now reservation
         place.now.mode) }
 {
     if place.layout.compact {
         let y = text_line(&place.layout);
         append_label(text, "k", 1600, y, place.name)?;
-        let terms = short_terms_text(alloc, reservation, place.mode)?;
+        let terms = short_terms_text(alloc, place.tick, reservation, place.mode)?;
         return append_label(
             text,
             "m r",
@@ -91,7 +102,7 @@ fn append_names(
         );
     }
     append_label(text, "n", 1600, 2100, place.name)?;
-    let terms = terms_text(alloc, reservation)?;
+    let terms = terms_text(alloc, place.tick, reservation)?;
     append_label(text, "m", 1600, 3600, &terms)?;
     append_label(text, "m", 1600, 5000, mode_word(place.mode))
 }
@@ -145,7 +156,8 @@ fn append_spans(
     chart: &ServerChart,
 ) -> Result<(), AllocError>
     ensures { OnOk result (string_bytes text.new ≡ string_bytes text.old
-        ++ spans_text place.now.axis place.now.layout place.now.name.now place.now.mode chart.now) }
+        ++ spans_text place.now.tick place.now.axis place.now.layout place.now.name.now place.now.mode
+        chart.now) }
 {
     for span in &chart.spans {
         append_span(alloc, text, place, &chart.jobs, span)?;
@@ -162,7 +174,7 @@ fn append_lates(
     lates: &[Stretch],
 ) -> Result<(), AllocError>
     ensures { OnOk result (string_bytes text.new ≡ string_bytes text.old
-        ++ lates_text place.now.axis place.now.layout place.now.name.now lates.now) }
+        ++ lates_text place.now.tick place.now.axis place.now.layout place.now.name.now lates.now) }
 {
     for late in lates {
         append_late(alloc, text, place, late)?;
@@ -197,7 +209,8 @@ fn append_fine(
     drawn: &Drawn,
 ) -> Result<(), AllocError>
     ensures { OnOk result (string_bytes text.new ≡ string_bytes text.old
-        ++ fine_text place.now.axis place.now.layout place.now.name.now place.now.mode drawn.now) }
+        ++ fine_text place.now.tick place.now.axis place.now.layout place.now.name.now place.now.mode
+        drawn.now) }
 {
     let axis = &place.axis;
     let layout = &place.layout;
@@ -207,6 +220,7 @@ fn append_fine(
     append_budget(
         alloc,
         text,
+        place.tick,
         axis,
         layout,
         whole,
@@ -291,12 +305,18 @@ fn append_charged(
 
 /// Returns the title of a server's units: its name, how many units ran, and in which ticks.
 #[tactic(auto, unfolding(crate::specs::Rows::units_title))]
-fn units_title(alloc: Global, name: &str, units: u64, window: Window) -> Result<String, AllocError>
-    ensures { IfOk result (λ title. string_bytes title ≡ units_title name.now units window) }
+fn units_title(
+    alloc: Global,
+    tick: Option<u64>,
+    name: &str,
+    units: u64,
+    window: Window,
+) -> Result<String, AllocError>
+    ensures { IfOk result (λ title. string_bytes title ≡ units_title tick name.now units window) }
 {
-    let from = window.from;
-    let to = window.to;
-    format!(in alloc; "{name}: {units} units in ticks {from} to {to}")
+    let mut title = format!(in alloc; "{name}: {units} units in ")?;
+    append_from_to(&mut title, tick, window.from, window.to)?;
+    Ok(title)
 }
 
 /// Appends what a server does, drawn in columns.
@@ -311,7 +331,7 @@ fn append_bars(
 ) -> Result<(), AllocError>
     ensures { let p = place.now in
         OnOk result (string_bytes text.new ≡ string_bytes text.old
-        ++ bars_text p.axis p.layout window p.name.now p.mode chart.now counts.now) }
+        ++ bars_text p.tick p.axis p.layout window p.name.now p.mode chart.now counts.now) }
 {
     let axis = &place.axis;
     let height = place.layout.height;
@@ -338,7 +358,13 @@ fn append_bars(
     )?;
     append_charged(alloc, text, place, window, chart, counts)?;
     let shape = layer_shape(alloc, axis, base, height, Layer::Runs, counts)?;
-    let title = units_title(alloc, place.name, units_of(window, chart), window)?;
+    let title = units_title(
+        alloc,
+        place.tick,
+        place.name,
+        units_of(window, chart),
+        window,
+    )?;
     append_titled(text, bar_class(place.mode, true), &shape, &title)
 }
 
@@ -374,8 +400,8 @@ fn append_dense(
     chart: &ServerChart,
 ) -> Result<(), AllocError>
     ensures { OnOk result (string_bytes text.new ≡ string_bytes text.old
-        ++ dense_text place.now.axis place.now.layout window place.now.name.now place.now.mode
-        chart.now) }
+        ++ dense_text place.now.tick place.now.axis place.now.layout window place.now.name.now
+        place.now.mode chart.now) }
 {
     let axis = &place.axis;
     let layout = &place.layout;
@@ -412,8 +438,8 @@ fn append_inside(
     drawn: &Drawn,
 ) -> Result<(), AllocError>
     ensures { OnOk result (string_bytes text.new ≡ string_bytes text.old
-        ++ inside_text place.now.axis place.now.layout window place.now.name.now place.now.mode
-        drawn.now) }
+        ++ inside_text place.now.tick place.now.axis place.now.layout window place.now.name.now
+        place.now.mode drawn.now) }
 {
     if place.layout.dense {
         return append_dense(alloc, text, place, window, &drawn.chart);
@@ -432,8 +458,8 @@ pub(crate) fn append_row(
     drawn: &Drawn,
 ) -> Result<(), AllocError>
     ensures { OnOk result (string_bytes text.new ≡ string_bytes text.old
-        ++ row_text place.now.axis place.now.layout window top place.now.name.now place.now.mode
-        drawn.now) }
+        ++ row_text place.now.tick place.now.axis place.now.layout window top place.now.name.now
+        place.now.mode drawn.now) }
 {
     writeln!(text, "<g transform=\"translate(0 {top})\">")?;
     append_names(alloc, text, place, drawn.reservation)?;

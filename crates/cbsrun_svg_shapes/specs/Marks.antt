@@ -1,8 +1,9 @@
 -- The marks of ticks: jobs that come, are finished or are refused, and deadlines.
-use Rattle.std.specs.Prelude.{ℕ, ◌+◌, ◌-◌, ◌*◌, ◌/◌, min, max, if◌then◌else◌, List, [], ◌++◌, codes, decimal, flat_map}
+use Rattle.std.specs.Prelude.{ℕ, ◌+◌, ◌-◌, ◌*◌, ◌/◌, min, max, if◌then◌else◌, List, [], ◌++◌, codes, decimal, flat_map, Option}
 use Rattle.std.specs.List.{range_with_len}
 use Rattle.cbsrun_chart.specs.declared.course.Corner.{Corner}
 use Rattle.cbsrun_window.specs.declared.stretch.Stretch.{Stretch}
+use Rattle.cbsrun_time_texts.specs.Texts.{time_text}
 use Rattle.cbsrun_svg_shapes.specs.Axes.{AxisSeen, right_of, x_at}
 use Rattle.cbsrun_svg_shapes.specs.declared.layout.Layout.{Layout}
 use Rattle.cbsrun_svg_shapes.specs.Shapes.{arrow_down_text, arrow_up_text, cross_text, label_text, lines_text, upright_text}
@@ -83,6 +84,8 @@ course_path a whole opening corners =
     ++ corners_text a whole corners ++ codes "H" ++ decimal (right_of a) ++ codes "V6300z\"/>\n"
 
 -- the course of a budget, labelled with the whole budget, if budgets are drawn
-unfoldable pub budget_text : AxisSeen → Layout → ℕ → ℕ → List Corner → List ℕ
-budget_text a l whole opening corners =
-    if l.budgets then course_path a whole opening corners ++ label_text (codes "m r") (a.left - 800) 5900 (codes "c &#8804; " ++ decimal whole) else []
+unfoldable pub budget_text : Option ℕ → AxisSeen → Layout → ℕ → ℕ → List Corner → List ℕ
+budget_text n a l whole opening corners =
+    if l.budgets
+    then course_path a whole opening corners ++ label_text (codes "m r") (a.left - 800) 5900 (codes "c &#8804; " ++ time_text n whole)
+    else []

@@ -8,6 +8,7 @@ use Rattle.cbsrun_window.specs.declared.stretch.Kind.TheVariants as kind
 use Rattle.cbsrun_window.specs.declared.stretch.Stretch.{Stretch}
 use Rattle.cbs_rules.specs.declared.mode.Mode.{Mode}
 use Rattle.cbs_rules.specs.declared.mode.Mode.TheVariants as mode
+use Rattle.cbsrun_time_texts.specs.Texts.{time_text}
 use Rattle.cbsrun_svg_shapes.specs.Axes.{AxisSeen, is_wide, x_at}
 use Rattle.cbsrun_svg_shapes.specs.declared.layout.Layout.{Layout}
 use Rattle.cbsrun_svg_shapes.specs.declared.spans.Place.{Place}
@@ -26,28 +27,37 @@ pale_text a l p = if is_pale p.kind then stretch_text a l.bar l.height p else []
 unfoldable pub pale_path : AxisSeen → Layout → List Stretch → List ℕ
 pale_path a l ps = path_text (codes "wait") (flat_map (pale_text a l) ps)
 
+-- the word before the numbers of ticks. Milliseconds have a unit after each
+abbrev pub ticks_word : Option ℕ → List ℕ
+ticks_word None = codes "ticks "
+ticks_word (Some n) = []
+
+-- from a tick up to another, in milliseconds if the nanoseconds of a tick are known
+unfoldable pub from_to_text : Option ℕ → ℕ → ℕ → List ℕ
+from_to_text n from to = ticks_word n ++ time_text n from ++ codes " to " ++ time_text n to
+
 -- the title of a stretch: what goes on in it, and in which ticks
-unfoldable pub stretch_title : List ℕ → List ℕ → Stretch → List ℕ
-stretch_title name what p = name ++ what ++ codes ": ticks " ++ decimal p.from ++ codes " to " ++ decimal p.to
+unfoldable pub stretch_title : Option ℕ → List ℕ → List ℕ → Stretch → List ℕ
+stretch_title n name what p = name ++ what ++ codes ": " ++ from_to_text n p.from p.to
 
 -- by how many ticks a job was finished late, if it was
-abbrev pub late_by_text : Option ℕ → ℕ → List ℕ
-late_by_text None took = []
-late_by_text (Some within) took = if ltb within took then codes ", late by " ++ decimal (took - within) else []
+abbrev pub late_by_text : Option ℕ → Option ℕ → ℕ → List ℕ
+late_by_text n None took = []
+late_by_text n (Some within) took = if ltb within took then codes ", late by " ++ time_text n (took - within) else []
 
 -- at which tick a job was finished, and by how much it was late
-abbrev pub finish_text : ChartJob → Option ℕ → List ℕ
-finish_text job None = codes ", not finished"
-finish_text job (Some finish) = codes ", finished at " ++ decimal finish ++ late_by_text job.within (finish - job.came)
+abbrev pub finish_text : Option ℕ → ChartJob → Option ℕ → List ℕ
+finish_text n job None = codes ", not finished"
+finish_text n job (Some finish) = codes ", finished at " ++ time_text n finish ++ late_by_text n job.within (finish - job.came)
 
 -- at which tick a job came, and at which it was finished
-abbrev pub job_text : Option ChartJob → List ℕ
-job_text None = []
-job_text (Some job) = codes "; came at " ++ decimal job.came ++ finish_text job job.finish
+abbrev pub job_text : Option ℕ → Option ChartJob → List ℕ
+job_text n None = []
+job_text n (Some job) = codes "; came at " ++ time_text n job.came ++ finish_text n job job.finish
 
 -- the title of a bar
-unfoldable pub bar_title : List ℕ → ℕ → Stretch → List ChartJob → List ℕ
-bar_title name j p jobs = stretch_title name (codes " job " ++ decimal j) p ++ job_text (job_numbered j jobs)
+unfoldable pub bar_title : Option ℕ → List ℕ → ℕ → Stretch → List ChartJob → List ℕ
+bar_title n name j p jobs = stretch_title n name (codes " job " ++ decimal j) p ++ job_text n (job_numbered j jobs)
 
 -- the class of a bar. It differs between a job and the next one, and between soft and throttled servers
 abbrev pub bar_class : Mode → Bool → List ℕ
@@ -64,31 +74,31 @@ number_text a l j p =
     else []
 
 -- a bar: the ticks of neighbouring units of one job
-unfoldable pub bar_text : AxisSeen → Layout → Mode → List ℕ → List ChartJob → ℕ → Stretch → List ℕ
-bar_text a l mode name jobs j p =
-    titled_text (bar_class mode (eqb (j % 2) 0)) (stretch_text a l.bar l.height p) (bar_title name j p jobs) ++ number_text a l j p
+unfoldable pub bar_text : Option ℕ → AxisSeen → Layout → Mode → List ℕ → List ChartJob → ℕ → Stretch → List ℕ
+bar_text n a l mode name jobs j p =
+    titled_text (bar_class mode (eqb (j % 2) 0)) (stretch_text a l.bar l.height p) (bar_title n name j p jobs) ++ number_text a l j p
 
 -- ticks that are no bar, with what goes on in them as a title
-unfoldable pub other_text : AxisSeen → Layout → List ℕ → List ℕ → List ℕ → Stretch → List ℕ
-other_text a l class name what p = titled_text class (stretch_text a l.bar l.height p) (stretch_title name what p)
+unfoldable pub other_text : Option ℕ → AxisSeen → Layout → List ℕ → List ℕ → List ℕ → Stretch → List ℕ
+other_text n a l class name what p = titled_text class (stretch_text a l.bar l.height p) (stretch_title n name what p)
 
 -- the class of charged ticks: boxes with an outline, or filled ones if cells are narrow
 abbrev pub charged_class : AxisSeen → List ℕ
 charged_class a = if is_wide a then codes "charged" else codes "fee"
 
 -- a stretch of ticks in which a server does something
-abbrev pub span_text : AxisSeen → Layout → Mode → List ℕ → List ChartJob → Kind → Stretch → List ℕ
-span_text a l mode name jobs (kind.Runs j) p = bar_text a l mode name jobs j p
-span_text a l mode name jobs kind.Charged p = other_text a l (charged_class a) name (codes " charged") p
-span_text a l mode name jobs kind.Throttled p = other_text a l (codes "hatch") name (codes " throttled") p
-span_text a l mode name jobs kind.Resting p = other_text a l (codes "hatch") name (codes " throttled, without a job") p
-span_text a l mode name jobs _ p = []
+abbrev pub span_text : Option ℕ → AxisSeen → Layout → Mode → List ℕ → List ChartJob → Kind → Stretch → List ℕ
+span_text n a l mode name jobs (kind.Runs j) p = bar_text n a l mode name jobs j p
+span_text n a l mode name jobs kind.Charged p = other_text n a l (charged_class a) name (codes " charged") p
+span_text n a l mode name jobs kind.Throttled p = other_text n a l (codes "hatch") name (codes " throttled") p
+span_text n a l mode name jobs kind.Resting p = other_text n a l (codes "hatch") name (codes " throttled, without a job") p
+span_text n a l mode name jobs _ p = []
 
 -- the same in the row of a server
 abbrev pub placed_span : Place → List ChartJob → Stretch → List ℕ
-placed_span place jobs p = span_text place.axis place.layout place.mode place.name.now jobs p.kind p
+placed_span place jobs p = span_text place.tick place.axis place.layout place.mode place.name.now jobs p.kind p
 
 -- ticks in which a job is late, drawn at least a pixel and a half wide
-unfoldable pub late_text : AxisSeen → Layout → List ℕ → Stretch → List ℕ
-late_text a l name p =
-    titled_text (codes "late") (box_text (x_at a p.from) (l.bar + l.height) (max (width_of a p) 150) l.lane) (stretch_title name (codes " late") p)
+unfoldable pub late_text : Option ℕ → AxisSeen → Layout → List ℕ → Stretch → List ℕ
+late_text n a l name p =
+    titled_text (codes "late") (box_text (x_at a p.from) (l.bar + l.height) (max (width_of a p) 150) l.lane) (stretch_title n name (codes " late") p)

@@ -19,4 +19,4 @@ pub use marks::{
     append_arrivals, append_budget, append_completions, append_deadlines, append_refused,
 };
 pub use shapes::{append_label, append_path, append_stretch, append_titled, append_upright};
-pub use spans::{Place, append_late, append_pale, append_span, bar_class};
+pub use spans::{Place, append_from_to, append_late, append_pale, append_span, bar_class};

@@ -9,6 +9,7 @@ use crate::shapes::{
     append_arrow_down, append_arrow_up, append_cross, append_label, append_lines, append_upright,
 };
 use cbsrun_chart::{Corner, Stretch};
+use cbsrun_time_texts::append_time;
 use std::alloc::{AllocError, Global};
 use std::fmt::Write;
 
@@ -298,11 +299,13 @@ fn append_course(
     writeln!(text, "H{right}V6300z\"/>")
 }
 
-/// Appends the course of a budget, labelled with the whole budget, if budgets are drawn.
+/// Appends the course of a budget, labelled with the whole budget, if budgets are drawn. The label is in milliseconds if the
+/// nanoseconds of a tick are known.
 #[tactic(auto, unfolding(crate::specs::Marks::budget_text))]
 pub fn append_budget(
     alloc: Global,
     text: &mut String,
+    tick: Option<u64>,
     axis: &Axis,
     layout: &Layout,
     whole: u64,
@@ -311,12 +314,13 @@ pub fn append_budget(
 ) -> Result<(), AllocError>
     requires { whole ≤ 1000000000 }
     ensures { OnOk result (string_bytes text.new ≡ string_bytes text.old
-        ++ budget_text axis.now layout.now whole opening corners.now) }
+        ++ budget_text tick axis.now layout.now whole opening corners.now) }
 {
     if !layout.budgets {
         return Ok(());
     }
     append_course(text, axis, whole, opening, corners)?;
-    let label = format!(in alloc; "c &#8804; {whole}")?;
+    let mut label = String::from_str(alloc, "c &#8804; ")?;
+    append_time(&mut label, tick, whole)?;
     append_label(text, "m r", axis.left().saturating_sub(800), 5900, &label)
 }

@@ -2,7 +2,7 @@
 
 ghost use Rattle.std.specs.Prelude.{◌≡◌, ◌++◌, codes, decimal, IfOk, OnOk, string_bytes};
 ghost use Rattle.cbsrun_svg_shapes.specs.Shapes.{stretch_text};
-ghost use Rattle.cbsrun_svg_shapes.specs.Spans.{bar_class, bar_text, bar_title, charged_class, finish_text, is_pale, job_text, late_by_text, late_text, number_text, other_text, pale_path, pale_text, placed_span, stretch_title};
+ghost use Rattle.cbsrun_svg_shapes.specs.Spans.{bar_class, bar_text, bar_title, charged_class, finish_text, from_to_text, is_pale, job_text, late_by_text, late_text, number_text, other_text, pale_path, pale_text, placed_span, stretch_title, ticks_word};
 
 use crate::axis::Axis;
 use crate::layout::Layout;
@@ -11,8 +11,8 @@ use crate::shapes::{
 };
 use cbs_rules::Mode;
 use cbsrun_chart::{ChartJob, Kind, Stretch, job_numbered};
+use cbsrun_time_texts::append_time;
 use std::alloc::{AllocError, Global};
-use std::fmt::Write;
 
 /// The row that is drawn: its place, and its server.
 #[derive(Clone, Copy)]
@@ -25,6 +25,8 @@ pub struct Place<'a> {
     pub mode: Mode,
     /// The server's name.
     pub name: &'a str,
+    /// The nanoseconds of a tick, or `None` if they are not known.
+    pub tick: Option<u64>,
 }
 
 /// Returns whether ticks of this kind are pale: the server has a job, and does not run.
@@ -73,74 +75,120 @@ pub fn append_pale(
     append_path(text, "wait", &shape)
 }
 
+/// Returns the word before the numbers of ticks. Milliseconds have a unit after each.
+fn ticks_word(tick: Option<u64>) -> &'static str
+    ensures { result.now ≡ ticks_word tick }
+{
+    match tick {
+        Some(_) => "",
+        None => "ticks ",
+    }
+}
+
+/// Appends from which tick up to which other something is, in milliseconds if the nanoseconds of a tick are known. The only
+/// error is out of memory.
+#[tactic(auto, unfolding(crate::specs::Spans::from_to_text))]
+pub fn append_from_to(
+    text: &mut String,
+    tick: Option<u64>,
+    from: u64,
+    to: u64,
+) -> Result<(), AllocError>
+    ensures { OnOk result (string_bytes text.new ≡ string_bytes text.old
+        ++ from_to_text tick from to) }
+{
+    text.push_str(ticks_word(tick))?;
+    append_time(text, tick, from)?;
+    text.push_str(" to ")?;
+    append_time(text, tick, to)
+}
+
 /// Returns the title of a stretch: what goes on in it, and in which ticks.
 #[tactic(auto, unfolding(crate::specs::Spans::stretch_title))]
 pub(crate) fn stretch_title(
     alloc: Global,
+    tick: Option<u64>,
     name: &str,
     what: &str,
     span: &Stretch,
 ) -> Result<String, AllocError>
-    ensures { IfOk result (λ title. string_bytes title ≡ stretch_title name.now what.now span.now) }
+    ensures { IfOk result (λ title. string_bytes title
+        ≡ stretch_title tick name.now what.now span.now) }
 {
-    let from = span.from;
-    let to = span.to;
-    format!(in alloc; "{name}{what}: ticks {from} to {to}")
+    let mut title = format!(in alloc; "{name}{what}: ")?;
+    append_from_to(&mut title, tick, span.from, span.to)?;
+    Ok(title)
 }
 
 /// Appends by how many ticks a job that took `took` ticks was finished late, if it was.
-fn append_late_by(title: &mut String, within: Option<u64>, took: u64) -> Result<(), AllocError>
+fn append_late_by(
+    title: &mut String,
+    tick: Option<u64>,
+    within: Option<u64>,
+    took: u64,
+) -> Result<(), AllocError>
     ensures { OnOk result (string_bytes title.new ≡ string_bytes title.old
-        ++ late_by_text within took) }
+        ++ late_by_text tick within took) }
 {
     match within {
         Some(within) if within < took => {
-            let late = took - within;
-            write!(title, ", late by {late}")
+            title.push_str(", late by ")?;
+            append_time(title, tick, took - within)
         }
         _ => Ok(()),
     }
 }
 
 /// Appends at which tick a job was finished, and by how much it was late.
-fn append_finish(title: &mut String, job: &ChartJob, finish: Option<u64>) -> Result<(), AllocError>
+fn append_finish(
+    title: &mut String,
+    tick: Option<u64>,
+    job: &ChartJob,
+    finish: Option<u64>,
+) -> Result<(), AllocError>
     ensures { OnOk result (string_bytes title.new ≡ string_bytes title.old
-        ++ finish_text job.now finish) }
+        ++ finish_text tick job.now finish) }
 {
     let Some(finish) = finish else {
         return title.push_str(", not finished");
     };
-    write!(title, ", finished at {finish}")?;
-    append_late_by(title, job.within, finish.saturating_sub(job.came))
+    title.push_str(", finished at ")?;
+    append_time(title, tick, finish)?;
+    append_late_by(title, tick, job.within, finish.saturating_sub(job.came))
 }
 
 /// Appends at which tick a job came, and at which it was finished.
-fn append_job(title: &mut String, job: Option<ChartJob>) -> Result<(), AllocError>
-    ensures { OnOk result (string_bytes title.new ≡ string_bytes title.old ++ job_text job) }
+fn append_job(
+    title: &mut String,
+    tick: Option<u64>,
+    job: Option<ChartJob>,
+) -> Result<(), AllocError>
+    ensures { OnOk result (string_bytes title.new ≡ string_bytes title.old ++ job_text tick job) }
 {
     let Some(job) = job else {
         return Ok(());
     };
-    let came = job.came;
-    write!(title, "; came at {came}")?;
-    append_finish(title, &job, job.finish)
+    title.push_str("; came at ")?;
+    append_time(title, tick, job.came)?;
+    append_finish(title, tick, &job, job.finish)
 }
 
 /// Returns the title of a bar.
 #[tactic(auto, unfolding(crate::specs::Spans::bar_title))]
 fn bar_title(
     alloc: Global,
+    tick: Option<u64>,
     name: &str,
     number: u64,
     span: &Stretch,
     jobs: &[ChartJob],
 ) -> Result<String, AllocError>
     ensures { IfOk result (λ title. string_bytes title
-        ≡ bar_title name.now number span.now jobs.now) }
+        ≡ bar_title tick name.now number span.now jobs.now) }
 {
     let what = format!(in alloc; " job {number}")?;
-    let mut title = stretch_title(alloc, name, &what, span)?;
-    append_job(&mut title, job_numbered(number, jobs))?;
+    let mut title = stretch_title(alloc, tick, name, &what, span)?;
+    append_job(&mut title, tick, job_numbered(number, jobs))?;
     Ok(title)
 }
 
@@ -210,10 +258,10 @@ fn append_bar(
 ) -> Result<(), AllocError>
     ensures { let p = place.now in
         OnOk result (string_bytes text.new ≡ string_bytes text.old
-        ++ bar_text p.axis p.layout p.mode p.name.now jobs.now number span.now) }
+        ++ bar_text p.tick p.axis p.layout p.mode p.name.now jobs.now number span.now) }
 {
     let shape = bar_shape(alloc, &place.axis, &place.layout, span)?;
-    let title = bar_title(alloc, place.name, number, span, jobs)?;
+    let title = bar_title(alloc, place.tick, place.name, number, span, jobs)?;
     append_titled(text, bar_class(place.mode, number % 2 == 0), &shape, &title)?;
     append_number(alloc, text, &place.axis, &place.layout, number, span)
 }
@@ -229,11 +277,11 @@ fn append_other(
     span: &Stretch,
 ) -> Result<(), AllocError>
     ensures { OnOk result (string_bytes text.new ≡ string_bytes text.old
-        ++ other_text place.now.axis place.now.layout class.now place.now.name.now what.now
-        span.now) }
+        ++ other_text place.now.tick place.now.axis place.now.layout class.now place.now.name.now
+        what.now span.now) }
 {
     let shape = bar_shape(alloc, &place.axis, &place.layout, span)?;
-    let title = stretch_title(alloc, place.name, what, span)?;
+    let title = stretch_title(alloc, place.tick, place.name, what, span)?;
     append_titled(text, class, &shape, &title)
 }
 
@@ -289,7 +337,7 @@ pub fn append_late(
     late: &Stretch,
 ) -> Result<(), AllocError>
     ensures { OnOk result (string_bytes text.new ≡ string_bytes text.old
-        ++ late_text place.now.axis place.now.layout place.now.name.now late.now) }
+        ++ late_text place.now.tick place.now.axis place.now.layout place.now.name.now late.now) }
 {
     let axis = &place.axis;
     let layout = &place.layout;
@@ -302,6 +350,6 @@ pub fn append_late(
         width,
         layout.lane,
     )?;
-    let title = stretch_title(alloc, place.name, " late", late)?;
+    let title = stretch_title(alloc, place.tick, place.name, " late", late)?;
     append_titled(text, "late", &shape, &title)
 }

@@ -7,6 +7,7 @@ use Rattle.cbsrun_window.specs.Windows.{ticks_of}
 use Rattle.cbsrun_chart.specs.declared.picture.Drawn.{Drawn}
 use Rattle.cbsrun_chart.specs.declared.picture.Picture.{Picture}
 use Rattle.cbsrun_text.specs.Numbers.{digits_of}
+use Rattle.cbsrun_time_texts.specs.Texts.{milliseconds_text}
 use Rattle.std.specs.List.{find, list_any}
 use Rattle.cbsrun_chart.specs.Rows.{next_tick}
 use Rattle.cbsrun_window.specs.Stretches.{takes}
@@ -17,9 +18,10 @@ use Rattle.cbsrun_window.specs.declared.stretch.Kind.{Kind}
 use Rattle.cbsrun_window.specs.declared.stretch.Kind.TheVariants as kind
 use Rattle.cbsrun_window.specs.declared.stretch.Stretch.{Stretch}
 
--- a grid: the width of names, the columns of a block, and the columns from one numbered tick to the next. Also the
--- first tick, the tick after the last one, and the ticks of a column
+-- a grid: the nanoseconds of a tick, if they are known, the width of names, the columns of a block, and the columns from one
+-- numbered tick to the next. Also the first tick, the tick after the last one, and the ticks of a column
 pub record GridSeen : Type 0 where
+  pub nanoseconds : Option ℕ
   pub width : ℕ
   pub plot : ℕ
   pub step : ℕ
@@ -45,12 +47,18 @@ width_of (d ∷ ds) = max (length (string_bytes d.name)) (width_of ds)
 -- how many columns a block has: 60, or fewer by tens, but at least 10. A line has a name, two blanks, the columns and a
 -- number at its end. With fewer columns it has at most 80 letters, if the name has room
 abbrev pub plot_of : ℕ → ℕ → ℕ
-plot_of width digits = max 10 (min 60 ((78 - width - digits) / 10 * 10))
+plot_of width letters = max 10 (min 60 ((78 - width - letters) / 10 * 10))
 
--- the number of columns from one numbered tick to the next: the least multiple of ten that has room for the digits and
+-- the number of columns from one numbered tick to the next: the least multiple of ten that has room for the letters and
 -- a blank
 abbrev pub step_of : ℕ → ℕ
-step_of digits = 10 * (1 + digits / 10)
+step_of letters = 10 * (1 + letters / 10)
+
+-- how many letters the number of a column up to tick `to` has at most: in milliseconds, those of the whole ones at `to`, and
+-- those of one tick after its first letter
+abbrev pub letters_of : Option ℕ → ℕ → ℕ
+letters_of None to = digits_of to
+letters_of (Some n) to = digits_of (told (n * to / 1000000)) + min 9 (length (milliseconds_text n 1) - 1)
 
 -- how many ticks a column has: one if there are at most 240 ticks, else so many that one block shows all
 abbrev pub cell_of : ℕ → ℕ → ℕ
@@ -59,12 +67,13 @@ cell_of ticks plot = if leb ticks 240 then 1 else div_ceil ticks plot
 -- the grid of a picture
 abbrev pub grid_of : Picture → GridSeen
 grid_of p = record {
+  nanoseconds = p.tick;
   width = width_of p.servers.items;
-  plot = plot_of (width_of p.servers.items) (digits_of p.window.to);
-  step = step_of (digits_of p.window.to);
+  plot = plot_of (width_of p.servers.items) (letters_of p.tick p.window.to);
+  step = step_of (letters_of p.tick p.window.to);
   from = p.window.from;
   to = p.window.to;
-  cell = cell_of (ticks_of p.window) (plot_of (width_of p.servers.items) (digits_of p.window.to));
+  cell = cell_of (ticks_of p.window) (plot_of (width_of p.servers.items) (letters_of p.tick p.window.to));
 }
 
 -- each column is one tick

@@ -10,6 +10,7 @@ use Rattle.cbsrun_chart.specs.declared.hidden.LeftOut.{LeftOut}
 use Rattle.cbsrun_chart.specs.declared.picture.Drawn.{Drawn}
 use Rattle.cbsrun_timeline.specs.Signs.{GridSeen, tick_of, blocks_of, count_of, first_of, grid_of, is_fine, blank, column_mark, column_sign}
 use Rattle.cbsrun_window.specs.Counts.{counts_of}
+use Rattle.cbsrun_time_texts.specs.Texts.{amount_text, ticks_text}
 use Rattle.cbsrun_chart.specs.declared.picture.Picture.{Picture}
 use Rattle.cbsrun_window.specs.declared.window.Window.{Window}
 use Rattle.cbsrun_timeline.specs.declared.legend.TheConstants.{CHARGED_LEGEND, COLUMN_LEGEND, LEGEND}
@@ -26,9 +27,10 @@ label_text width name = padded width name ++ codes "  "
 abbrev pub line_text : List ℕ → List ℕ
 line_text text = trim_end text ++ codes "\n"
 
--- the number of the tick at which a numbered column begins, with blanks up to the next numbered column
+-- the number of the tick at which a numbered column begins, with blanks up to the next numbered column. It is in milliseconds if
+-- the nanoseconds of a tick are known
 abbrev pub number_text : GridSeen → ℕ → ℕ → List ℕ
-number_text g first k = padded g.step (decimal (tick_of g (first + k * g.step)))
+number_text g first k = padded g.step (amount_text g.nanoseconds (tick_of g (first + k * g.step)))
 
 unfoldable pub numbers_text : GridSeen → ℕ → ℕ → List ℕ
 numbers_text g first count = flat_map (number_text g first) (range_with_len 0 (count / g.step + 1))
@@ -71,11 +73,17 @@ server_text g first count d =
 
 -- how many ticks a column has, if it has more than one
 unfoldable pub cell_text : GridSeen → List ℕ
-cell_text g = if is_fine g then [] else codes ", a column is " ++ decimal g.cell ++ codes " ticks"
+cell_text g = if is_fine g then [] else codes ", a column is " ++ ticks_text g.nanoseconds g.cell
+
+-- the ticks that are shown in milliseconds, too, if the nanoseconds of a tick are known
+abbrev pub times_text : Option ℕ → ℕ → ℕ → List ℕ
+times_text None from to = []
+times_text (Some n) from to = codes ", " ++ ticks_text (Some n) from ++ codes " to " ++ ticks_text (Some n) to
 
 -- the heading: the name of the file, and the ticks that are shown
 unfoldable pub heading_text : GridSeen → List ℕ → List ℕ
-heading_text g file = file ++ codes ", ticks " ++ decimal g.from ++ codes " to " ++ decimal g.to ++ cell_text g ++ codes "\n"
+heading_text g file =
+    file ++ codes ", ticks " ++ decimal g.from ++ codes " to " ++ decimal g.to ++ times_text g.nanoseconds g.from g.to ++ cell_text g ++ codes "\n"
 
 -- the line of how many ticks of the run are not shown, if there are any
 unfoldable pub hidden_line : Option Hidden → List ℕ

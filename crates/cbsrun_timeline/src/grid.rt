@@ -1,17 +1,19 @@
 //! The ticks that the columns of a timeline stand for.
 
 ghost use Rattle.std.specs.Prelude.{◌≡◌, ◌+◌, ◌-◌, ◌≤◌, ◌<◌, IfOk};
-ghost use Rattle.cbsrun_timeline.specs.Signs.{blocks_of, cell_of, columns_of, count_of, end_of, first_of, grid_of, is_fine, plot_of, step_of, tick_of, width_of};
+ghost use Rattle.cbsrun_timeline.specs.Signs.{blocks_of, cell_of, columns_of, count_of, end_of, first_of, grid_of, is_fine, letters_of, plot_of, step_of, tick_of, width_of};
 ghost use Rattle.cbsrun_window.specs.Windows.{IsShort};
 
 use cbsrun_chart::{Drawn, Picture};
 use cbsrun_text::digits_of;
+use cbsrun_time_texts::append_milliseconds;
 use std::alloc::{AllocError, Global};
 use std::marker::Model;
 
 /// The ticks of a window, in blocks of columns.
 #[derive(Clone, Copy)]
 pub(crate) struct Grid {
+    nanoseconds: Option<u64>,
     width: u64,
     plot: u64,
     step: u64,
@@ -25,11 +27,11 @@ impl Model for Grid {
 
     ghost Value = { GridSeen };
 
-    ghost view = { λ g. record { width = g.width; plot = g.plot; step = g.step; from = g.from; to = g.to; cell = g.cell } };
+    ghost view = { λ g. record { nanoseconds = g.nanoseconds; width = g.width; plot = g.plot; step = g.step; from = g.from; to = g.to; cell = g.cell } };
 
     ghost invariant = { λ g. IsGrid g.plot g.step g.from g.to g.cell };
 
-    ghost inverse = { λ g. record { width = g.width; plot = g.plot; step = g.step; from = g.from; to = g.to; cell = g.cell } };
+    ghost inverse = { λ g. record { nanoseconds = g.nanoseconds; width = g.width; plot = g.plot; step = g.step; from = g.from; to = g.to; cell = g.cell } };
 }
 
 /// Returns the width of the widest name.
@@ -43,24 +45,40 @@ fn width_of(servers: &[Drawn]) -> u64
     width
 }
 
+/// Returns how many letters the number of a column up to tick `to` has at most: at most 29. In milliseconds these are the
+/// letters of the whole ones at `to`, and those of one tick after its first letter.
+fn letters_of(alloc: Global, nanoseconds: Option<u64>, to: u64) -> Result<u64, AllocError>
+    ensures value { IfOk result (λ letters. letters ≡ letters_of nanoseconds to) }
+    ensures few { IfOk result (λ letters. letters ≤ 29) }
+{
+    let Some(nanoseconds) = nanoseconds else {
+        return digits_of(alloc, to);
+    };
+    let mut one = String::new(alloc);
+    append_milliseconds(&mut one, nanoseconds, 1)?;
+    let more = (one.len() as u64).saturating_sub(1).min(9);
+    let whole = u128::from(nanoseconds) * u128::from(to) / 1_000_000;
+    Ok(digits_of(alloc, u64::try_from(whole).unwrap_or(u64::MAX))? + more)
+}
+
 /// Returns how many columns a block has: 10 to 60.
-fn plot_of(width: u64, digits: u64) -> u64
-    ensures value { result ≡ plot_of width digits }
+fn plot_of(width: u64, letters: u64) -> u64
+    ensures value { result ≡ plot_of width letters }
     ensures wide { 10 ≤ result }
     ensures narrow { result ≤ 60 }
 {
-    let room = 78u64.saturating_sub(width).saturating_sub(digits);
+    let room = 78u64.saturating_sub(width).saturating_sub(letters);
     (room / 10 * 10).min(60).max(10)
 }
 
-/// Returns the number of columns from one numbered tick to the next, by the digits of the numbers: 10 to 30.
-fn step_of(digits: u64) -> u64
-    requires { digits ≤ 20 }
-    ensures value { result ≡ step_of digits }
+/// Returns the number of columns from one numbered tick to the next, by the letters of the numbers: 10 to 30.
+fn step_of(letters: u64) -> u64
+    requires { letters ≤ 29 }
+    ensures value { result ≡ step_of letters }
     ensures apart { 10 ≤ result }
     ensures near { result ≤ 30 }
 {
-    10 * (1 + digits / 10)
+    10 * (1 + letters / 10)
 }
 
 /// Returns how many ticks a column has: 1 to 20,000.
@@ -85,16 +103,24 @@ impl Grid {
     {
         let window = picture.window;
         let width = width_of(&picture.servers);
-        let digits = digits_of(alloc, window.to)?;
-        let plot = plot_of(width, digits);
+        let letters = letters_of(alloc, picture.tick, window.to)?;
+        let plot = plot_of(width, letters);
         Ok(Grid {
+            nanoseconds: picture.tick,
             width,
             plot,
-            step: step_of(digits),
+            step: step_of(letters),
             from: window.from,
             to: window.to,
             cell: cell_of(window.ticks(), plot),
         })
+    }
+
+    /// Returns the nanoseconds of a tick, or `None` if they are not known.
+    pub fn nanoseconds(&self) -> Option<u64>
+        ensures { result ≡ self.now.nanoseconds }
+    {
+        self.nanoseconds
     }
 
     /// Returns the width of the widest name.

@@ -6,9 +6,10 @@ ghost use Rattle.cbsrun_timeline.specs.Timelines.{number_text, numbers_text, rul
 use crate::grid::Grid;
 use crate::lines::{append_label, append_line, append_padded};
 use crate::signs::{BLANK, FIVE, TEN};
+use cbsrun_time_texts::append_amount;
 use std::alloc::{AllocError, Global};
 
-/// Appends the number of the tick at which a numbered column begins.
+/// Appends the number of the tick at which a numbered column begins, in milliseconds if the nanoseconds of a tick are known.
 fn append_number(
     alloc: Global,
     text: &mut String,
@@ -22,7 +23,8 @@ fn append_number(
         ++ number_text grid.now first place) }
 {
     let tick = grid.tick(first + place * grid.step());
-    let number = tick.to_string(alloc)?;
+    let mut number = String::new(alloc);
+    append_amount(&mut number, grid.nanoseconds(), tick)?;
     append_padded(text, grid.step(), &number)
 }
 

@@ -2,7 +2,7 @@
 
 ghost use Rattle.std.specs.Prelude.{◌≡◌, ◌≤◌, ◌<◌, ◌++◌, IfOk, OnOk, string_bytes};
 ghost use Rattle.std.specs.List.{list_any};
-ghost use Rattle.cbsrun_timeline.specs.Timelines.{block_text, blocks_text, cell_text, charged_legend, drawn_text, heading_text, hidden_line, is_charged, left_out_line, legend_text, servers_text, timeline_text};
+ghost use Rattle.cbsrun_timeline.specs.Timelines.{block_text, blocks_text, cell_text, charged_legend, drawn_text, heading_text, hidden_line, is_charged, left_out_line, legend_text, servers_text, timeline_text, times_text};
 ghost use Rattle.cbsrun_window.specs.Windows.{IsShort};
 
 use crate::grid::Grid;
@@ -10,6 +10,7 @@ use crate::legend::{CHARGED_LEGEND, COLUMN_LEGEND, LEGEND};
 use crate::lines::append_server;
 use crate::ruler::append_ruler;
 use cbsrun_chart::{Counts, Drawn, Hidden, LeftOut, Picture, Window};
+use cbsrun_time_texts::append_ticks;
 use std::alloc::{AllocError, Global};
 use std::fmt::Write;
 
@@ -21,8 +22,27 @@ fn append_cell(text: &mut String, grid: &Grid) -> Result<(), AllocError>
     if grid.is_fine() {
         return Ok(());
     }
-    let cell = grid.cell();
-    write!(text, ", a column is {cell} ticks")
+    text.push_str(", a column is ")?;
+    append_ticks(text, grid.nanoseconds(), grid.cell())
+}
+
+/// Appends the ticks that are shown in milliseconds, too, if the nanoseconds of a tick are known.
+fn append_times(
+    text: &mut String,
+    nanoseconds: Option<u64>,
+    from: u64,
+    to: u64,
+) -> Result<(), AllocError>
+    ensures { OnOk result (string_bytes text.new ≡ string_bytes text.old
+        ++ times_text nanoseconds from to) }
+{
+    if nanoseconds.is_none() {
+        return Ok(());
+    }
+    text.push_str(", ")?;
+    append_ticks(text, nanoseconds, from)?;
+    text.push_str(" to ")?;
+    append_ticks(text, nanoseconds, to)
 }
 
 /// Appends the heading: the name of the file, and the ticks that are shown.
@@ -34,6 +54,7 @@ fn append_heading(text: &mut String, grid: &Grid, file: &str) -> Result<(), Allo
     let from = grid.from();
     let to = grid.to();
     write!(text, "{file}, ticks {from} to {to}")?;
+    append_times(text, grid.nanoseconds(), from, to)?;
     append_cell(text, grid)?;
     text.push_str("\n")
 }

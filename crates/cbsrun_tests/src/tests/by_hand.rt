@@ -63,6 +63,7 @@ fn picture(
         reserved: Bandwidth { ticks: 1, of: 10 },
         window,
         end: 20,
+        tick: None,
         idle: Vec::new(alloc),
         servers,
         others: 0,

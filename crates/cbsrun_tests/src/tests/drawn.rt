@@ -49,6 +49,7 @@ pub(crate) fn picture_of(
         reserved: load.plan().bandwidth(),
         window: chart.window,
         end: chart.end,
+        tick: None,
         idle: chart.idle,
         servers,
         others: 0,

@@ -4,8 +4,7 @@ use Rattle.cbsrun_perfetto.proofs.Floats.{about_plain, written}
 use Rattle.cbsrun_perfetto.proofs.events.about_text.Goals as goal
 
 pub returns : goal.returns
-unfolding about_data
 returns c =
     let a = c.args in
-    written c.event_text.result (about_data a.what.now a.thread (view a.args)) (about_plain a.what.now a.thread (view a.args) c.requires)
-    c.event_text.ensures
+    written c.to_string.result (about_data a.what.now a.thread (view a.args)) (about_plain a.what.now a.thread (view a.args) c.requires)
+    (rw c.in_ok-about_value.ensures at c.to_string.ensures.text)

@@ -10,18 +10,19 @@ loop-server-init c = record { top = omega arith; text = sym (append-nil (string_
 
 pub loop-server-preserved : goal.loop-server-preserved
 loop-server-preserved c =
+    let n = c.args.nanoseconds in
     let a = c.args.axis.now in
     let l = c.args.layout.now in
     let ds = c.args.servers.now in
     let i = c.loop-server.server-index in
     let d = c.server-item.result in
     let old = string_bytes c.args.text.now in
-    let rows = rows_text a l c.args.window 11000 (take i ds) in
+    let rows = rows_text n a l c.args.window 11000 (take i ds) in
     record {
       top = omega (arith, c.loop-server.invariant.top);
-      text = c.in_ok-append_server_row.ensures ∙ (ap (λ t. t ++ server_row a l c.args.window c.loop-server.top d) c.loop-server.invariant.text
-          ∙ (append_assoc old rows (server_row a l c.args.window c.loop-server.top d)
-          ∙ (ap (λ t. old ++ (rows ++ server_row a l c.args.window t d)) c.loop-server.invariant.top
-          ∙ (ap (λ y. old ++ (rows ++ server_row a l c.args.window (11000 + i * l.row) y)) c.server-item.is
-          ∙ ap (λ t. old ++ t) (sym (rows_next a l c.args.window 11000 ds i d c.loop-server-test.true))))));
+      text = c.in_ok-append_server_row.ensures ∙ (ap (λ t. t ++ server_row n a l c.args.window c.loop-server.top d) c.loop-server.invariant.text
+          ∙ (append_assoc old rows (server_row n a l c.args.window c.loop-server.top d)
+          ∙ (ap (λ t. old ++ (rows ++ server_row n a l c.args.window t d)) c.loop-server.invariant.top
+          ∙ (ap (λ y. old ++ (rows ++ server_row n a l c.args.window (11000 + i * l.row) y)) c.server-item.is
+          ∙ ap (λ t. old ++ t) (sym (rows_next n a l c.args.window 11000 ds i d c.loop-server-test.true))))));
     }

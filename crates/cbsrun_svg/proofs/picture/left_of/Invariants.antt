@@ -4,6 +4,6 @@ use Rattle.cbsrun_svg.proofs.picture.left_of.Given as goal
 
 abbrev pub invariant-loop-server : goal.invariant-loop-server
 invariant-loop-server l = record {
-  value : l.left ≡ left_of (length l.servers) (take l.server-index l.servers);
+  value : l.left ≡ left_of l.nanoseconds (length l.servers) (take l.server-index l.servers);
   small : l.left ≤ 100000;
 }

@@ -18,5 +18,6 @@ returns c =
       reserved = refl;
       window = refl;
       end = refl;
+      tick = refl;
       idle = refl;
     }
