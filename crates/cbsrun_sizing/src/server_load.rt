@@ -91,13 +91,13 @@ fn repeated_of(
     ensures value { IfOk result (λ own. own.items ≡ repeated_of server sources.now) }
     ensures few { IfOk result (λ own. length own.items ≤ length sources.now) }
 {
-    let mut own = Vec::new(alloc);
+    let mut repeated = Vec::new(alloc);
     for terms in sources {
         if terms.server == server && !terms.is_single() {
-            own.push(at_most(terms))?;
+            repeated.push(at_most(terms))?;
         }
     }
-    Ok(own)
+    Ok(repeated)
 }
 
 /// Returns the most ticks of a job of a source.

@@ -72,6 +72,7 @@ fn numbers_of_a_robot(rt: HostRuntime) {
     };
     let control = ServerLoad {
         asked: Some(Asked { ticks: 1, of: 12 }),
+        once: 0,
         promised: Ok(19),
         remedy: Some(delayed),
         kept: None,
@@ -79,6 +80,7 @@ fn numbers_of_a_robot(rt: HostRuntime) {
     };
     let vision = ServerLoad {
         asked: Some(Asked { ticks: 30, of: 120 }),
+        once: 0,
         promised: Ok(54),
         remedy: Some(none),
         kept: None,
@@ -87,6 +89,7 @@ fn numbers_of_a_robot(rt: HostRuntime) {
     // 5 units of 8 ticks, every 4 ticks
     let logging = ServerLoad {
         asked: Some(Asked { ticks: 40, of: 4 }),
+        once: 0,
         promised: Err(NotPromised::AsksTooMuch),
         remedy: Some(none),
         kept: None,
@@ -200,6 +203,7 @@ fn remedies(rt: HostRuntime) {
     // other has 5.
     let batches = ServerLoad {
         asked: Some(Asked { ticks: 30, of: 50 }),
+        once: 0,
         promised: Err(NotPromised::AsksTooMuch),
         remedy: Some(Remedy {
             backlog: None,
@@ -215,6 +219,7 @@ fn remedies(rt: HostRuntime) {
     // a job of each source may be unfinished, whatever the reservation
     let twice = ServerLoad {
         asked: Some(Asked { ticks: 2, of: 40 }),
+        once: 0,
         promised: Err(NotPromised::BacklogTooSmall { needed: 2 }),
         remedy: Some(Remedy {
             backlog: Some(2),
@@ -264,6 +269,7 @@ fn a_remedy_with_another_period_keeps_within(rt: HostRuntime) {
     // a unit of 2 ticks, in one period, before the next comes
     let noise = ServerLoad {
         asked: Some(Asked { ticks: 2, of: 20 }),
+        once: 0,
         promised: Ok(20),
         remedy: None,
         kept: None,
@@ -273,6 +279,7 @@ fn a_remedy_with_another_period_keeps_within(rt: HostRuntime) {
     // the source then has to say. Of 18 ticks noise has 3.6.
     let slow = ServerLoad {
         asked: Some(Asked { ticks: 4, of: 20 }),
+        once: 0,
         promised: Ok(22),
         remedy: Some(Remedy {
             backlog: None,

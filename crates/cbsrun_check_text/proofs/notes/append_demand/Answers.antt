@@ -6,8 +6,10 @@ use Rattle.cbsrun_check_text.proofs.notes.append_demand.Goals as goal
 
 pub returns : goal.returns
 unfolding demand_text
-returns c = pushed c.push_str.result _ (string_bytes c.append_fraction-2.new.text) (codes "\n") _ c.push_str.ensures.bytes (simp (
+returns c = pushed c.push_str-2.result _ (string_bytes c.append_fraction-2.new.text) (codes "\n") _ c.push_str-2.ensures.bytes (simp (
   c.in_ok-append_fraction-2.ensures,
+  c.in_ok-append_once.ensures,
+  c.in_ok-push_str.ensures.bytes,
   c.in_ok-append_fraction.ensures,
   c.from.ensures,
   c.from-2.ensures,

@@ -4,6 +4,6 @@ use Rattle.cbsrun_sizing.proofs.server_load.repeated_of.Given as goal
 
 abbrev pub invariant-loop-terms : goal.invariant-loop-terms
 invariant-loop-terms l = record {
-  value : l.own.items ≡ repeated_of l.server (take l.terms-index l.sources);
-  few : length l.own.items ≤ l.terms-index;
+  value : l.repeated.items ≡ repeated_of l.server (take l.terms-index l.sources);
+  few : length l.repeated.items ≤ l.terms-index;
 }
