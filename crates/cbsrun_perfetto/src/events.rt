@@ -132,8 +132,8 @@ pub(crate) fn slice_line(
     args: &Value,
 ) -> Result<Line, AllocError>
     requires { has_float (view args.now) ≡ false }
-    ensures { IfOk result (λ line. line ≡ slice_line name.now cat.now thread span.now.from span.now.to
-        (view args.now)) }
+    ensures { IfOk result (λ line. line ≡ slice_line name.now cat.now thread
+        span.now.from span.now.to (view args.now)) }
 {
     let ticks = span.to.saturating_sub(span.from);
     let before = before_text(alloc, cat, args)?;

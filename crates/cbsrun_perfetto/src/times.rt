@@ -39,7 +39,7 @@ fn append_decimals(text: &mut String, part: u64) -> Result<(), AllocError>
 }
 
 /// Appends so many ticks in microseconds, by the nanoseconds of a tick. If these are not known, a tick is a microsecond.
-/// There are as many decimals as it needs to be exact.
+/// It has as many decimals as it needs to be exact.
 pub(crate) fn append_microseconds(
     text: &mut String,
     nanoseconds: Option<u64>,

@@ -155,7 +155,7 @@ fn trace_text(alloc: Global, picture: &Picture, lines: &[Line]) -> Result<String
     Ok(text)
 }
 
-/// Returns a picture as a trace, in the Trace Event Format. Its times are in microseconds. A tick is one of these, if the
+/// Returns a picture as a trace, in the Trace Event Format. Its times are in microseconds. A tick is one of these if the
 /// picture does not say how long a tick is. The only error is out of memory.
 pub fn trace_json(alloc: Global, picture: &Picture) -> Result<String, AllocError>
     ensures { IfOk result (λ text. IsTrace picture.now (string_bytes text)) }

@@ -49,8 +49,8 @@ multiples_from first step count = map (multiple first step) (range_with_len 0 co
 abbrev pub numbered_ticks : Window → ℕ → List ℕ
 numbered_ticks w step = multiples_from (div_ceil w.from (max 1 step)) step (multiples w step)
 
--- how many letters a label of a tick up to `to` has at most: in milliseconds, those of the whole ones at `to`, and those of
--- one tick after its first letter
+-- how many letters the number of a tick up to `to` has at most: in milliseconds, the digits of the whole ones at `to`, and
+-- the letters of one tick after its first
 abbrev pub letters_of : Option ℕ → ℕ → ℕ
 letters_of None to = digits_of to
 letters_of (Some n) to = digits_of (told (n * to / 1000000)) + min 20 (length (milliseconds_text n 1) - 1)

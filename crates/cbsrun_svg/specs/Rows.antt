@@ -119,5 +119,6 @@ inside_text n a l w name mode d = if l.dense then dense_text n a l w name mode d
 -- the row of a server, whose top edge is at `top`
 unfoldable pub row_text : Option ℕ → AxisSeen → Layout → Window → ℕ → List ℕ → Mode → Drawn → List ℕ
 row_text n a l w top name mode d =
-    codes "<g transform=\"translate(0 " ++ decimal top ++ codes ")\">\n" ++ names_text n a l name d.reservation mode ++ units_text a l (units_of w d.chart) (charged_of w d.chart)
+    codes "<g transform=\"translate(0 " ++ decimal top ++ codes ")\">\n" ++ names_text n a l name d.reservation mode
+    ++ units_text a l (units_of w d.chart) (charged_of w d.chart)
     ++ inside_text n a l w name mode d ++ codes "</g>\n"

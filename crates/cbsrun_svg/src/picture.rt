@@ -40,7 +40,8 @@ fn words_width(
 
 /// Returns the left edge of the axis, which leaves room for the widest words.
 fn left_of(alloc: Global, nanoseconds: Option<u64>, servers: &[Drawn]) -> Result<u64, AllocError>
-    ensures value { IfOk result (λ left. left ≡ left_of nanoseconds (length servers.now) servers.now) }
+    ensures value { IfOk result (λ left. left
+        ≡ left_of nanoseconds (length servers.now) servers.now) }
     ensures small { IfOk result (λ left. left ≤ 100000) }
 {
     let mut left = 15_000;

@@ -156,8 +156,8 @@ fn append_spans(
     chart: &ServerChart,
 ) -> Result<(), AllocError>
     ensures { OnOk result (string_bytes text.new ≡ string_bytes text.old
-        ++ spans_text place.now.tick place.now.axis place.now.layout place.now.name.now place.now.mode
-        chart.now) }
+        ++ spans_text place.now.tick place.now.axis place.now.layout place.now.name.now
+        place.now.mode chart.now) }
 {
     for span in &chart.spans {
         append_span(alloc, text, place, &chart.jobs, span)?;
@@ -209,8 +209,8 @@ fn append_fine(
     drawn: &Drawn,
 ) -> Result<(), AllocError>
     ensures { OnOk result (string_bytes text.new ≡ string_bytes text.old
-        ++ fine_text place.now.tick place.now.axis place.now.layout place.now.name.now place.now.mode
-        drawn.now) }
+        ++ fine_text place.now.tick place.now.axis place.now.layout place.now.name.now
+        place.now.mode drawn.now) }
 {
     let axis = &place.axis;
     let layout = &place.layout;

@@ -80,8 +80,8 @@ fn numbered_ticks(alloc: Global, window: Window, step: u64) -> Result<Vec<u64>, 
     multiples_from(alloc, first, step, multiples(window, step))
 }
 
-/// Returns how many letters a label of a tick up to `to` has at most: at most 40. In milliseconds these are the letters of
-/// the whole ones at `to`, and those of one tick after its first letter.
+/// Returns how many letters the number of a tick up to `to` has at most, which are at most 40. In milliseconds these are the
+/// digits of the whole ones at `to`, and the letters of one tick after its first.
 fn letters_of(alloc: Global, nanoseconds: Option<u64>, to: u64) -> Result<u64, AllocError>
     ensures value { IfOk result (λ letters. letters ≡ letters_of nanoseconds to) }
     ensures few { IfOk result (λ letters. letters ≤ 40) }

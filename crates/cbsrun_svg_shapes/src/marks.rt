@@ -299,8 +299,8 @@ fn append_course(
     writeln!(text, "H{right}V6300z\"/>")
 }
 
-/// Appends the course of a budget, labelled with the whole budget, if budgets are drawn. The label is in milliseconds if the
-/// nanoseconds of a tick are known.
+/// Appends the course of a budget, labelled with the whole budget, if budgets are drawn. The label is in milliseconds if
+/// the nanoseconds of a tick are known.
 #[tactic(auto, unfolding(crate::specs::Marks::budget_text))]
 pub fn append_budget(
     alloc: Global,

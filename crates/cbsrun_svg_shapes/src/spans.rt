@@ -85,8 +85,8 @@ fn ticks_word(tick: Option<u64>) -> &'static str
     }
 }
 
-/// Appends from which tick up to which other something is, in milliseconds if the nanoseconds of a tick are known. The only
-/// error is out of memory.
+/// Appends from which tick up to which other something is, in milliseconds if the nanoseconds of a tick are known. The
+/// only error is out of memory.
 #[tactic(auto, unfolding(crate::specs::Spans::from_to_text))]
 pub fn append_from_to(
     text: &mut String,

@@ -18,8 +18,8 @@ use Rattle.cbsrun_window.specs.declared.stretch.Kind.{Kind}
 use Rattle.cbsrun_window.specs.declared.stretch.Kind.TheVariants as kind
 use Rattle.cbsrun_window.specs.declared.stretch.Stretch.{Stretch}
 
--- a grid: the nanoseconds of a tick, if they are known, the width of names, the columns of a block, and the columns from one
--- numbered tick to the next. Also the first tick, the tick after the last one, and the ticks of a column
+-- a grid: the nanoseconds of a tick, if they are known, the width of names, the columns of a block, and the columns from
+-- one numbered tick to the next. Also the first tick, the tick after the last one, and the ticks of a column
 pub record GridSeen : Type 0 where
   pub nanoseconds : Option ℕ
   pub width : ℕ
@@ -54,8 +54,8 @@ plot_of width letters = max 10 (min 60 ((78 - width - letters) / 10 * 10))
 abbrev pub step_of : ℕ → ℕ
 step_of letters = 10 * (1 + letters / 10)
 
--- how many letters the number of a column up to tick `to` has at most: in milliseconds, those of the whole ones at `to`, and
--- those of one tick after its first letter
+-- how many letters the number of a tick up to `to` has at most: in milliseconds, the digits of the whole ones at `to`, and
+-- the letters of one tick after its first
 abbrev pub letters_of : Option ℕ → ℕ → ℕ
 letters_of None to = digits_of to
 letters_of (Some n) to = digits_of (told (n * to / 1000000)) + min 9 (length (milliseconds_text n 1) - 1)

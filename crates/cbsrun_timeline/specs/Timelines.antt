@@ -27,8 +27,8 @@ label_text width name = padded width name ++ codes "  "
 abbrev pub line_text : List ℕ → List ℕ
 line_text text = trim_end text ++ codes "\n"
 
--- the number of the tick at which a numbered column begins, with blanks up to the next numbered column. It is in milliseconds if
--- the nanoseconds of a tick are known
+-- the number of the tick at which a numbered column begins, in milliseconds if the nanoseconds of a tick are known, with
+-- blanks up to the next numbered column
 abbrev pub number_text : GridSeen → ℕ → ℕ → List ℕ
 number_text g first k = padded g.step (amount_text g.nanoseconds (tick_of g (first + k * g.step)))
 

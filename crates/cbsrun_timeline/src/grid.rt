@@ -45,8 +45,8 @@ fn width_of(servers: &[Drawn]) -> u64
     width
 }
 
-/// Returns how many letters the number of a column up to tick `to` has at most: at most 29. In milliseconds these are the
-/// letters of the whole ones at `to`, and those of one tick after its first letter.
+/// Returns how many letters the number of a tick up to `to` has at most, which are at most 29. In milliseconds these are
+/// the digits of the whole ones at `to`, and the letters of one tick after its first.
 fn letters_of(alloc: Global, nanoseconds: Option<u64>, to: u64) -> Result<u64, AllocError>
     ensures value { IfOk result (λ letters. letters ≡ letters_of nanoseconds to) }
     ensures few { IfOk result (λ letters. letters ≤ 29) }

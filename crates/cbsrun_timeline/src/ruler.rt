@@ -9,7 +9,8 @@ use crate::signs::{BLANK, FIVE, TEN};
 use cbsrun_time_texts::append_amount;
 use std::alloc::{AllocError, Global};
 
-/// Appends the number of the tick at which a numbered column begins, in milliseconds if the nanoseconds of a tick are known.
+/// Appends the number of the tick at which a numbered column begins. It is in milliseconds if the nanoseconds of a tick
+/// are known.
 fn append_number(
     alloc: Global,
     text: &mut String,
