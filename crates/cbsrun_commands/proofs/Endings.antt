@@ -10,7 +10,7 @@ use Rattle.cbsrun_commands.specs.Outputs.{IsTaskReportText}
 use Rattle.cbsrun_lines.specs.Writers.{Writer, IsUntouched}
 use Rattle.cbsrun_lines.specs.declared.run_error.RunError.{RunError}
 use Rattle.cbsrun_lines.specs.declared.run_error.RunError.TheVariants.{OutOfMemory, WriteFault, ClockEnd, Stalled}
-use Rattle.cbsrun_commands.specs.Commands.{Command, Does, EndsAs, EndsByAnswer, EndsCheck, Tells, TellsAnswer, TellsCheck, answered, closed_pipe, done, not_done, read, unread}
+use Rattle.cbsrun_commands.specs.Commands.{Command, Does, EndsAs, EndsByAnswer, EndsCheck, Tells, TellsAnswer, TellsCheck, answered, closed_pipe, checked, done, not_done, unread}
 use Rattle.cbsrun_commands.specs.Commands.{nothing_shown, refused, status_done, stopped}
 use Rattle.cbsrun_commands.specs.FaultLines.{Prints, StopsPrinting}
 use Rattle.cbsrun_commands.specs.declared.ending.Stopped.{Stopped}
@@ -89,14 +89,14 @@ pub ends_check : {F : Type 0} (c : Command F) (answers : F → Bool → Type 0) 
     → IfOk ended (λ answer. (f : F) × (c.read bytes ≡ Ok f) × answers f answer) → TellsCheck strict name bytes closed ended err err' status
     → EndsCheck c answers strict name bytes closed out out' err err' status
 ends_check c answers strict name bytes closed out out' err err' (Ok answer) status d a t =
-    read status (never_unread strict answer status t.0) (ends_by_answer c answers strict name bytes closed out out' err err' (Ok answer) status d a t)
+    checked status (never_unread strict answer status t.0) (ends_by_answer c answers strict name bytes closed out out' err err' (Ok answer) status d a t)
 ends_check c answers strict name bytes closed out out' err err' (Err (Unread fault)) status d a t = rw t.0 (unread fault d.0 d.1 t.1)
 ends_check c answers strict name bytes closed out out' err err' (Err (Ended e)) status d a t =
-    read status (λ is. absurd (omega (arith, t.0, is)))
+    checked status (λ is. absurd (omega (arith, t.0, is)))
     (ends_by_answer c answers strict name bytes closed out out' err err' (Err (Ended e)) status d a t)
 ends_check c answers strict name bytes closed out out' err err' (Err (Run error)) status d a (inl (broke, is, kept)) =
-    read status (λ e. absurd (omega (arith, is, e)))
+    checked status (λ e. absurd (omega (arith, is, e)))
     (ends_by_answer c answers strict name bytes closed out out' err err' (Err (Run error)) status d a (inl (broke, is, kept)))
 ends_check c answers strict name bytes closed out out' err err' (Err (Run error)) status d a (inr (other, is, told)) =
-    read status (λ e. absurd (omega (arith, is, e)))
+    checked status (λ e. absurd (omega (arith, is, e)))
     (ends_by_answer c answers strict name bytes closed out out' err err' (Err (Run error)) status d a (inr (other, is, told)))

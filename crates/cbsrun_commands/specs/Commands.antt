@@ -90,7 +90,7 @@ pub data EndsByAnswer {F : Type 0} (c : Command F) (answers : F → Bool → Typ
 -- faults of the file may be explained, too
 pub data EndsCheck {F : Type 0} (c : Command F) (answers : F → Bool → Type 0) (strict : Bool) (name bytes : List ℕ) (closed : Bool)
     (out out' err err' : Writer) : ℕ → Type 0 where
-  read : (status : ℕ) → status ≢ 3 → EndsByAnswer c answers strict name bytes closed out out' err err' status
+  checked : (status : ℕ) → status ≢ 3 → EndsByAnswer c answers strict name bytes closed out out' err err' status
       → EndsCheck c answers strict name bytes closed out out' err err' status
   unread : (fault : FileFault) → (fault ≡ no_memory) ⊎ (c.read bytes ≡ Err fault) → IsUntouched out out' → ExplainsAll name bytes fault err err'
       → EndsCheck c answers strict name bytes closed out out' err err' 3

@@ -6,7 +6,7 @@ pub returns-in_default : goal.returns-in_default
 returns-in_default g c = rw c.in_default.is (refl, untouched _)
 
 pub returns-in-Unread : goal.returns-in-Unread
-returns-in-Unread g c = rw (c.in-Err.is, c.in-Unread.is) (refl, c.write_explained.ensures.explained)
+returns-in-Unread g c = rw (c.in-Err.is, c.in-Unread.is) (refl, c.write_explained-explained.ensures.explained)
 
 pub returns-in-Ended : goal.returns-in-Ended
 returns-in-Ended g c = rw (c.in-Err.is, c.in-Ended.is)
