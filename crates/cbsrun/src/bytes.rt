@@ -4,6 +4,7 @@ ghost use Rattle.std.specs.Prelude.{◌-◌, ◌<◌, ◌^◌};
 ghost use Rattle.cbsrun_io.specs.Writers.{MayWrite};
 
 use cbsrun_commands::{ByteOutput, FromRead, ReadError, read_all, write_pieces};
+use cbsrun_fault_texts::printable;
 use std::alloc::{AllocError, Global};
 use std::fs::File;
 use std::{fs, io};
@@ -53,14 +54,15 @@ fn reason(
     name: &str,
     unread: &Unread,
 ) -> Result<String, AllocError> {
+    let shown = printable(alloc, name)?;
     match unread {
-        Unread::Unopened(error) => format!(in alloc; "cannot open {name}: {error}"),
+        Unread::Unopened(error) => format!(in alloc; "cannot open {shown}: {error}"),
         Unread::Opened(fault) if name == STANDARD_INPUT => {
             format!(in alloc; "cannot read standard input: {fault}")
         }
         Unread::Opened(ReadError::ReadFault) if fs::metadata(rt, name).is_ok_and(|m| m.is_dir()) =>
-            format!(in alloc; "cannot read {name}: it is a folder"),
-        Unread::Opened(fault) => format!(in alloc; "cannot read {name}: {fault}"),
+            format!(in alloc; "cannot read {shown}: it is a folder"),
+        Unread::Opened(fault) => format!(in alloc; "cannot read {shown}: {fault}"),
     }
 }
 

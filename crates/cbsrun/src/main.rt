@@ -18,6 +18,7 @@ use cbsrun_commands::{
     simulate_bytes_within, simulate_jobs_within, simulate_lines_within, size_bytes_within,
     sweep_bytes_within, write_pieces, write_read_fault, write_run_fault,
 };
+use cbsrun_fault_texts::printable;
 use cbsrun_tasks::MEMORY;
 use cbsrun_text_colours::Painted;
 use std::alloc::{AllocError, Global};
@@ -218,14 +219,16 @@ fn status_of<R: Threads + Clock + Sync>(
 }
 
 /// Writes the heading of the output of a file, as `head` writes it, if it is one of several and the output is for people.
-/// An empty line stands before each but the first.
+/// An empty line stands before each but the first. If out of memory, writes nothing.
 fn write_heading(rt: &HostRuntime, asked: &Asked, place: usize, name: &str) {
     if asked.files.len() < 2 || !is_for_people(asked.action) {
         return;
     }
     let before = if place > 0 { "\n" } else { "" };
-    let mut out = ToWrite::new(rt.stdout());
-    let _written = write_pieces(&mut out, &[before, "==> ", name, " <==\n"]);
+    if let Ok(shown) = printable(rt.alloc(), name) {
+        let mut out = ToWrite::new(rt.stdout());
+        let _written = write_pieces(&mut out, &[before, "==> ", shown.as_str(), " <==\n"]);
+    }
 }
 
 /// Runs the command that the command line asks for on each of its files, in order, and returns the greatest status. It runs

@@ -16,3 +16,4 @@ mod values;
 
 pub use faults::explain;
 pub use others::explain_others;
+pub use page::printable;

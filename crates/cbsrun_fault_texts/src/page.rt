@@ -300,3 +300,13 @@ impl Page {
         }
     }
 }
+
+/// Returns a text as a terminal shows it: a character that controls a terminal as its code, as `\u{1b}`. The only error is
+/// out of memory.
+pub fn printable(alloc: Global, text: &str) -> Result<String, AllocError>
+    ensures { IfOk result (λ shown. string_bytes shown ≡ printable text.now) }
+{
+    let mut page = Page::new(alloc);
+    page.push_printable(text);
+    page.finish()
+}
