@@ -24,7 +24,7 @@ use Rattle.cbs_units.proofs.Worlds.{world_same, charge_refusal_same}
 
 module _ {W : Type 0} (work : Meaning W) where
   -- the output of a job that is its units is 0
-  no_output : (n : ℕ) (j : CountJob) → output_after counting n j ≡ 0
+  pub no_output : (n : ℕ) (j : CountJob) → output_after counting n j ≡ 0
   no_output zero j = refl
   no_output (suc n) j = no_output n (record { units = j.units - 1 })
 
@@ -79,7 +79,7 @@ module _ {W : Type 0} (work : Meaning W) where
   reply_to_same backlog w (Close s) = rw (faces_same work w) (close_reply_same (close_refusal (faces work w) s))
   reply_to_same backlog w (Charge s n) = rw (charge_refusal_same work w s n) (charge_reply_same (charge_refusal w s n))
 
-  reply_same : (M : History W) (x : Step W) → reply_in counting (counted_history work M) (counted_step work x) ≡ counted_reply work (reply_in work M x)
+  pub reply_same : (M : History W) (x : Step W) → reply_in counting (counted_history work M) (counted_step work x) ≡ counted_reply work (reply_in work M x)
   reply_same M x = ap (λ (w : World CountJob). reply_to counting M.setup.backlog w (counted_step work x)) (world_same work M) ∙ (reply_to_same M.setup.backlog (world_after work M) x)
 
   -- the answers to all steps of a list
