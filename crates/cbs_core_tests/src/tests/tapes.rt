@@ -9,12 +9,21 @@ use std::process::Abort;
 /// A job of 3 units for server 0 and its units, 17 ticks, a job of 300 units for server 1, and a unit of it that is charged
 /// 5 ticks.
 static SIX: [Entry; 6] = [
-    Entry::Accepted { server: 0, units: 3 },
+    Entry::Accepted {
+        server: 0,
+        units: 3,
+    },
     Entry::Units(3),
     Entry::Advanced(17),
-    Entry::Accepted { server: 1, units: 300 },
+    Entry::Accepted {
+        server: 1,
+        units: 300,
+    },
     Entry::Units(1),
-    Entry::Charged { server: 1, ticks: 5 },
+    Entry::Charged {
+        server: 1,
+        ticks: 5,
+    },
 ];
 
 /// The bytes of these, with the mark of the end.
@@ -44,8 +53,14 @@ fn a_tape_is_written_and_read_again(rt: HostRuntime) {
 fn a_tape_may_be_cut_at_each_byte(rt: HostRuntime) {
     let alloc = rt.alloc();
     for (bytes, &whole) in WHOLE.iter().enumerate() {
-        let ending = if bytes < 13 { Ending::Cut } else { Ending::Marked };
-        reads(&rt, alloc, &THIRTEEN[..bytes], &SIX[..whole], ending);
+        let front = THIRTEEN.get(..bytes).expect(&rt, "bytes");
+        let entries = SIX.get(..whole).expect(&rt, "entries");
+        let ending = if bytes < 13 {
+            Ending::Cut
+        } else {
+            Ending::Marked
+        };
+        reads(&rt, alloc, front, entries, ending);
     }
 }
 
@@ -85,7 +100,13 @@ fn a_tape_with_no_room_has_the_first_steps(rt: HostRuntime) {
     tape.closed(0);
     let bytes = tape.end();
     same(&rt, "bytes", bytes.as_slice(), &[0x40, 0x03, 0xC1]);
-    let first = [Entry::Accepted { server: 0, units: 3 }, Entry::Units(2)];
+    let first = [
+        Entry::Accepted {
+            server: 0,
+            units: 3,
+        },
+        Entry::Units(2),
+    ];
     reads(&rt, alloc, bytes.as_slice(), &first, Ending::Cut);
 }
 
@@ -142,7 +163,10 @@ static STRANGE: [(&[u8], &[Entry], Ending); 10] = [
     // A job of 2^32 - 1 units, and one of 2^32.
     (
         &[127, 254, 255, 255, 255, 255, 4],
-        &[Entry::Accepted { server: 63, units: u32::MAX }],
+        &[Entry::Accepted {
+            server: 63,
+            units: u32::MAX,
+        }],
         Ending::Marked,
     ),
     (&[64, 255, 0, 0, 0, 0, 1, 0, 0, 0, 4], &[], Ending::Unknown),
