@@ -13,6 +13,7 @@ mod rates;
 mod rows;
 mod rules;
 mod scheduling;
+mod tapes;
 
 use cbs_core::{Core, Ran};
 use cbs_job::{Completion, MAX_UNITS, SumJob, Task, Work};

@@ -5,6 +5,7 @@ use super::{core_of, filled, same, sum_of};
 use cbs_core::{Core, CoreError, Ran};
 use cbs_job::{FileJob, PeakJob, SumJob, Task, Work};
 use cbs_rules::Mode;
+use cbs_units::CountJob;
 use linked_list_allocator::LocalHeap;
 use std::alloc::{Allocator, Global};
 use std::process::Abort;
@@ -31,7 +32,7 @@ fn comes_to<W: Work, A: Allocator + Clone>(rt: &impl Abort, alloc: A, task: Task
     }
 }
 
-/// Runs a sum and a peak, each as itself and as a job of a task file.
+/// Runs a sum and a peak, each as itself and as a job of a task file, and a job that is only its units.
 fn all_come_to<A: Allocator + Clone + Copy>(rt: &impl Abort, global: Global, alloc: A) {
     comes_to(rt, alloc, sum_of(rt, global, &[1, 2, 3]), 6);
     comes_to(rt, alloc, peak_of(rt, global, &[4, 9, 2]), 9);
@@ -41,6 +42,8 @@ fn all_come_to<A: Allocator + Clone + Copy>(rt: &impl Abort, global: Global, all
     let peak = Task::new(FileJob::Peak(peak)).ok().expect(rt, "a task");
     comes_to(rt, alloc, sum, 6);
     comes_to(rt, alloc, peak, 9);
+    let count = Task::new(CountJob { units: 3 }).ok().expect(rt, "a task");
+    comes_to(rt, alloc, count, 0);
 }
 
 #[test]

@@ -124,7 +124,7 @@ fn a_report_takes_several_files(rt: HostRuntime) {
         let asked = read_words(alloc, words(&rt, alloc, line))
             .ok()
             .expect(&rt, line);
-        same(&rt, line, asked.files.len(), 3);
+        assert!(&rt; asked.files.len() == 3);
         same(&rt, line, asked.files[0].as_str(), "a.toml");
         same(&rt, line, asked.files[1].as_str(), "b.toml");
         same(&rt, line, asked.files[2].as_str(), "c.toml");

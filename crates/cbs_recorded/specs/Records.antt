@@ -1,0 +1,54 @@
+-- A core whose steps a tape was told, and a core that makes the steps of the tape.
+use Rattle.std.specs.Prelude.{◌≡◌, true, List, [], map}
+use Rattle.cbs_job.specs.Work.{Meaning}
+use Rattle.cbs_steps.specs.History.{Setup, History}
+use Rattle.cbs_steps.specs.Continuations.{◌⊕⊕◌}
+use Rattle.cbs_steps.specs.declared.step.Step.{Step}
+use Rattle.cbs_core.specs.Agreement.{Agrees, Follows}
+use Rattle.cbs_core.specs.Held.{CoreHeld}
+use Rattle.cbs_units.specs.declared.count.CountJob.{CountJob}
+use Rattle.cbs_units.specs.Counting.{counting, counted, counted_step}
+use Rattle.cbs_tape.specs.Tapes.{Taped, HearsEach}
+
+-- The core made some steps, from old to new, and the tape was told each of them, with its job as its units
+pub record Records {W : Type 0} (work : Meaning W) (old new : CoreHeld W) (before after : Taped) : Type 0 where
+  pub steps : List (Step W)
+  pub follows : Follows work old new steps
+  pub told : HearsEach (map (counted_step work) steps) before after
+
+-- both cores show the same: the clock, and of each server its budget, deadline, overrun and charges, how many jobs it
+-- accepted and finished, and whether it is closed
+pub record ShowsTheSame {W : Type 0} (other : CoreHeld CountJob) (core : CoreHeld W) : Type 0 where
+  pub clock : other.clock ≡ core.clock
+  pub faces : other.faces ≡ core.faces
+
+-- servers with no step made
+abbrev pub started : {W : Type 0} → Setup → History W
+started setup = record { setup = setup; steps = [] }
+
+-- what a core holds, of each job only the units that are left
+abbrev pub counted_core : {W : Type 0} → Meaning W → CoreHeld W → CoreHeld CountJob
+counted_core work core = record {
+  backlog = core.backlog;
+  clock = core.clock;
+  last = core.last;
+  faces = core.faces;
+  queues = map (map (counted work)) core.queues;
+  rooms = core.rooms;
+}
+
+module _ {W : Type 0} where
+  -- A core of this setup made steps from the first on, and an empty tape was told each. If the tape is whole, each core
+  -- that agrees with its steps shows what the recorded core shows
+  abbrev pub AsItWas : Meaning W → Type 0
+  AsItWas work = (setup : Setup) (first last : CoreHeld W) (empty tape : Taped) (other : CoreHeld CountJob)
+      → Agrees work first (started setup) → empty.steps ≡ [] → Records work first last empty tape → tape.whole ≡ true
+      → Agrees counting other (started setup ⊕⊕ tape.steps) → ShowsTheSame other last
+
+  -- The tape was told the steps from some state on. Each core that begins with what was held then, of each job the units
+  -- that were left, and makes the steps of the tape, shows what the recorded core shows
+  abbrev pub AsItWasFrom : Meaning W → Type 0
+  AsItWasFrom work = (M : History W) (first last : CoreHeld W) (empty tape : Taped) (begun other : CoreHeld CountJob)
+      → Agrees work first M → begun ≡ record (counted_core work first) { rooms = begun.rooms }
+      → empty.steps ≡ [] → Records work first last empty tape → tape.whole ≡ true
+      → Follows counting begun other tape.steps → ShowsTheSame other last

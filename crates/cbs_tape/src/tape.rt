@@ -1,0 +1,223 @@
+//! A tape that is told each step.
+
+ghost use Rattle.std.specs.Prelude.{◌≡◌, ◌+◌, ◌-◌, ◌<◌, ◌≤◌, ◌^◌, [], true, false, length, vec_len, vec_capacity, IfOk, MatchOption};
+ghost use Rattle.std.proofs.Math.ListN.{replicate};
+ghost use Rattle.cbs_steps.specs.declared.step.Step.TheVariants as step;
+ghost use Rattle.cbs_tape.specs.Spelling.{HasSpelling};
+ghost use Rattle.cbs_tape.specs.Reading.{told};
+ghost use Rattle.cbs_tape.specs.Tapes.{steps_of, steps_in, ending_of, AreEntries, Tells, HearsAll, Hears, HasRoom};
+
+use crate::entry::Entry;
+use crate::marks::{END, SERVERS};
+use crate::writing::{LONGEST, put_entry};
+use std::alloc::{AllocError, Allocator, Global};
+use std::marker::Model;
+
+/// How many bytes a step may need: a row of units before it, its entry, a row after it, and the mark of the end.
+const RESERVE: usize = 3 * LONGEST + 1;
+
+/// A tape in memory, which has the steps that it was told, in order. Its size is fixed when it is made, so no step takes
+/// memory. Units in a row are counted, and are one entry.
+///
+/// A step that finds no room is lost. From then on the tape is not whole, and has no step that it is told later.
+#[derive(Drop)]
+pub struct Tape<A: Allocator = Global> {
+    bytes: Vec<u8, A>,
+    // The units in a row that are no entry yet. Only a whole tape has them.
+    units: u64,
+    // Whether no step was lost.
+    whole: bool,
+}
+
+impl<A: Allocator> Model for Tape<A> {
+    ghost use Rattle.std.specs.Prelude.{◌≡◌, ◌+◌, ◌-◌, ◌≤◌, ◌++◌, [], true, if◌then◌else◌, vec_len, vec_capacity};
+    ghost use Rattle.std.proofs.Math.ListN.{replicate};
+    ghost use Rattle.cbs_steps.specs.declared.step.Step.TheVariants as step;
+    ghost use Rattle.cbs_tape.specs.Tapes.{Taped, steps_in, AreEntries};
+
+    ghost Value = { Taped };
+
+    ghost view = { λ t. record {
+      steps = steps_in t.bytes.items ++ (if t.whole then replicate t.units step.Run else []);
+      whole = t.whole;
+      room = vec_capacity t.bytes - vec_len t.bytes;
+    } };
+
+    ghost invariant = { λ t. AreEntries t.bytes.items × (t.whole ≡ true → vec_len t.bytes + 11 ≤ vec_capacity t.bytes) };
+}
+
+impl<A: Allocator> Tape<A> {
+    /// Returns a whole tape with no step, in a memory of this many bytes and 31 more. The only error is out of memory.
+    #[tactic(auto, using(crate::proofs::Written::none_are, crate::proofs::Written::no_steps))]
+    pub fn new(alloc: A, bytes: u32) -> Result<Self, AllocError>
+        ensures { IfOk result (λ t. t ≡ record { steps = []; whole = true; room = bytes + 31 }) }
+    {
+        Ok(Tape {
+            bytes: Vec::with_capacity(alloc, bytes as usize + RESERVE)?,
+            units: 0,
+            whole: true,
+        })
+    }
+
+    /// Returns whether the tape has each step that it was told.
+    pub fn is_whole(&self) -> bool
+        ensures { result ≡ self.now.whole }
+    {
+        self.whole
+    }
+
+    /// Takes down that a unit ran. Units in a row need a byte of room for up to 64 of them, and at most 10 for more.
+    ///
+    /// The step is lost if the tape is not whole, or has 2^64 - 1 units in a row.
+    #[tactic(auto, using(crate::proofs::Written::row_length))]
+    #[inline(always)]
+    pub fn ran(&mut self)
+        ensures heard { Hears step.Run self.old self.new }
+        ensures kept { self.old.whole ≡ true → length self.old.steps < 2 ^ 64 - 1
+            → self.new.whole ≡ true }
+        ensures room { self.old.room ≤ self.new.room + 10 }
+    {
+        match self.units.checked_add(1) {
+            Some(units) => self.units = units,
+            None => self.give_up(),
+        }
+    }
+
+    /// Takes down that a server accepted a job of so many units.
+    ///
+    /// The step is lost if the tape is not whole, has less than 31 bytes of room, or the server is not below 64.
+    pub fn accepted(&mut self, server: u16, units: u32)
+        ensures heard { Hears (step.Submit server (record { units = units })) self.old self.new }
+        ensures kept { server < 64 → HasRoom self.old self.new }
+    {
+        match server_of(server) {
+            Some(server) => self.put(Entry::Accepted { server, units }),
+            None => self.give_up(),
+        }
+    }
+
+    /// Takes down that so many ticks passed.
+    ///
+    /// The step is lost if the tape is not whole, or has less than 31 bytes of room.
+    pub fn advanced(&mut self, ticks: u64)
+        ensures heard { Hears (step.Advance ticks) self.old self.new }
+        ensures kept { HasRoom self.old self.new }
+    {
+        self.put(Entry::Advanced(ticks));
+    }
+
+    /// Takes down that a server was charged so many ticks.
+    ///
+    /// The step is lost if the tape is not whole, has less than 31 bytes of room, or the server is not below 64.
+    pub fn charged(&mut self, server: u16, ticks: u64)
+        ensures heard { Hears (step.Charge server ticks) self.old self.new }
+        ensures kept { server < 64 → HasRoom self.old self.new }
+    {
+        match server_of(server) {
+            Some(server) => self.put(Entry::Charged { server, ticks }),
+            None => self.give_up(),
+        }
+    }
+
+    /// Takes down that a server was closed.
+    ///
+    /// The step is lost if the tape is not whole, has less than 31 bytes of room, or the server is not below 64.
+    pub fn closed(&mut self, server: u16)
+        ensures heard { Hears (step.Close server) self.old self.new }
+        ensures kept { server < 64 → HasRoom self.old self.new }
+    {
+        match server_of(server) {
+            Some(server) => self.put(Entry::Closed(server)),
+            None => self.give_up(),
+        }
+    }
+
+    /// Ends the tape, and returns its bytes. Its steps are what is read of them. A whole tape is ended by the mark of the
+    /// end. One that lost a step is not, so it reads as a tape that is cut.
+    #[tactic(auto, using(crate::proofs::Written::ends_marked, crate::proofs::Written::marked_steps, crate::proofs::Written::ends_cut))]
+    pub fn end(self) -> Vec<u8, A>
+        ensures steps { steps_in result.items ≡ self.steps }
+        ensures ending { (told result.items).ending ≡ ending_of self.whole }
+    {
+        let Tape {
+            mut bytes,
+            units,
+            whole,
+        } = self;
+        if whole {
+            put_units(&mut bytes, units);
+            bytes.push_reserved(END);
+        }
+        bytes
+    }
+
+    /// Puts an entry after the units in a row. If there is no room for it, the tape is whole no more.
+    #[tactic(auto, using(crate::proofs::Written::tells_two))]
+    #[inline(always)]
+    fn put(&mut self, e: Entry)
+        requires { HasSpelling e }
+        ensures heard { HearsAll (steps_of e) self.old self.new }
+        ensures kept { HasRoom self.old self.new }
+    {
+        if !self.whole || self.bytes.capacity() - self.bytes.len() < RESERVE {
+            self.give_up();
+            return;
+        }
+        put_units(&mut self.bytes, self.units);
+        self.units = 0;
+        put_after(&mut self.bytes, e);
+    }
+
+    /// Puts the units in a row. The tape is whole no more, and has the same steps.
+    #[inline(never)]
+    fn give_up(&mut self)
+        ensures steps { self.new.steps ≡ self.old.steps }
+        ensures whole { self.new.whole ≡ false }
+        ensures room { self.old.room ≤ self.new.room + 10 }
+    {
+        if self.whole {
+            put_units(&mut self.bytes, self.units);
+            self.whole = false;
+        }
+    }
+}
+
+/// Returns the server, if it is below 64.
+#[inline(always)]
+fn server_of(server: u16) -> Option<u8>
+    ensures { MatchOption result (64 ≤ server) (λ s. (s ≡ server) × (server < 64)) }
+{
+    if server < u16::from(SERVERS) {
+        Some(server as u8)
+    } else {
+        None
+    }
+}
+
+/// Puts so many units in a row after other entries.
+#[tactic(auto, using(crate::proofs::Written::tells_none))]
+#[inline(always)]
+fn put_units<A: Allocator>(bytes: &mut Vec<u8, A>, units: u64)
+    requires room { vec_len bytes.old + 10 ≤ vec_capacity bytes.old }
+    requires entries { AreEntries bytes.old.items }
+    ensures tells { Tells (replicate units step.Run) bytes.old.items bytes.new.items }
+    ensures capacity { vec_capacity bytes.old ≤ vec_capacity bytes.new }
+    ensures most { vec_len bytes.new ≤ vec_len bytes.old + 10 }
+{
+    if units > 0 {
+        put_after(bytes, Entry::Units(units));
+    }
+}
+
+/// Puts an entry after other entries.
+#[inline(always)]
+fn put_after<A: Allocator>(bytes: &mut Vec<u8, A>, e: Entry)
+    requires room { vec_len bytes.old + 10 ≤ vec_capacity bytes.old }
+    requires spelled { HasSpelling e }
+    requires entries { AreEntries bytes.old.items }
+    ensures tells { Tells (steps_of e) bytes.old.items bytes.new.items }
+    ensures capacity { vec_capacity bytes.old ≤ vec_capacity bytes.new }
+    ensures most { vec_len bytes.new ≤ vec_len bytes.old + 10 }
+{
+    put_entry(bytes, e);
+}

@@ -1,0 +1,4 @@
+pub mod Accounts
+pub mod Worlds
+pub mod Replies
+pub mod Examples
