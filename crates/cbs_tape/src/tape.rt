@@ -66,7 +66,7 @@ impl<A: Allocator> Tape<A> {
         self.whole
     }
 
-    /// Takes down that a unit ran. Units in a row need a byte of room for up to 64 of them, and at most 10 for more.
+    /// Adds a unit that ran. Units in a row take a byte if they are up to 64, and 10 bytes at most if they are more.
     ///
     /// The step is lost if the tape is not whole, or has 2^64 - 1 units in a row.
     #[tactic(auto, using(crate::proofs::Written::row_length))]
@@ -83,7 +83,7 @@ impl<A: Allocator> Tape<A> {
         }
     }
 
-    /// Takes down that a server accepted a job of so many units.
+    /// Adds a job of so many units that a server accepted.
     ///
     /// The step is lost if the tape is not whole, has less than 31 bytes of room, or the server is not below 64.
     pub fn accepted(&mut self, server: u16, units: u32)
@@ -96,7 +96,7 @@ impl<A: Allocator> Tape<A> {
         }
     }
 
-    /// Takes down that so many ticks passed.
+    /// Adds so many ticks that passed.
     ///
     /// The step is lost if the tape is not whole, or has less than 31 bytes of room.
     pub fn advanced(&mut self, ticks: u64)
@@ -106,7 +106,7 @@ impl<A: Allocator> Tape<A> {
         self.put(Entry::Advanced(ticks));
     }
 
-    /// Takes down that a server was charged so many ticks.
+    /// Adds so many ticks that a server was charged.
     ///
     /// The step is lost if the tape is not whole, has less than 31 bytes of room, or the server is not below 64.
     pub fn charged(&mut self, server: u16, ticks: u64)
@@ -119,7 +119,7 @@ impl<A: Allocator> Tape<A> {
         }
     }
 
-    /// Takes down that a server was closed.
+    /// Adds the close of a server.
     ///
     /// The step is lost if the tape is not whole, has less than 31 bytes of room, or the server is not below 64.
     pub fn closed(&mut self, server: u16)
