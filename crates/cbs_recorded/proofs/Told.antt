@@ -1,5 +1,6 @@
 -- The steps that a whole tape has, and what they lead to.
-use Rattle.std.proofs.Common.{◌≡◌, true, List, [], ◌∷◌, ◌++◌, map, refl, sym, ap, ◌∙◌}
+use Rattle.std.proofs.Common.{◌≡◌, ℕ, zero, suc, true, List, [], ◌∷◌, ◌++◌, length, take, drop, map, refl, sym, ap, ◌∙◌}
+use Rattle.std.proofs.lemmas.List.{take_at, take-map}
 use Rattle.cbs_job.specs.Work.{Meaning}
 use Rattle.cbs_steps.specs.History.{World, History, ◌⊕◌, faces, world_after}
 use Rattle.cbs_steps.specs.Continuations.{◌⊕⊕◌}
@@ -11,8 +12,14 @@ use Rattle.cbs_units.specs.Counting.{counting, counted_step, counted_history, co
 use Rattle.cbs_units.proofs.Accounts.{faces_same}
 use Rattle.cbs_units.proofs.Worlds.{world_same}
 use Rattle.cbs_tape.specs.Tapes.{Taped}
-use Rattle.cbs_tape.proofs.Fronts.{has_all}
-use Rattle.cbs_recorded.specs.Records.{Records, ShowsTheSame, started, AsItWas}
+use Rattle.cbs_tape.proofs.Fronts.{has_all, adds_first}
+use Rattle.cbs_recorded.specs.Records.{Records, ShowsTheSame, started, AsItWas, AsItBegan}
+
+-- a list is its first elements and the others
+both_parts : {X : Type 0} (n : ℕ) (xs : List X) → xs ≡ take n xs ++ drop n xs
+both_parts zero xs = refl
+both_parts (suc n) [] = refl
+both_parts {X = X} (suc n) (x ∷ xs) = ap (λ (ys : List X). x ∷ ys) (both_parts n xs)
 
 module _ {W : Type 0} (work : Meaning W) where
   -- more steps, each with its job as its units
@@ -42,3 +49,24 @@ module _ {W : Type 0} (work : Meaning W) where
       let same : started setup ⊕⊕ tape.steps ≡ counted_history work (started setup ⊕⊕ records.steps) =
       ap (λ (xs : List (Step CountJob)). started setup ⊕⊕ xs) steps ∙ sym (counted_more (started setup) records.steps) in
       shows_after (started setup ⊕⊕ records.steps) last (started setup ⊕⊕ tape.steps) other same (records.follows (started setup) agrees) replayed
+
+  -- a tape that lost a step has the first ones
+  pub as_it_began : AsItBegan work
+  as_it_began setup first last empty tape other none records replayed =
+      let xs : List (Step W) = records.steps in
+      let more = adds_first (map (counted_step work) xs) empty tape records.told in
+      let n : ℕ = length more.kept in
+      let steps : tape.steps ≡ map (counted_step work) (take n xs) =
+      more.steps ∙ (ap (λ (ys : List (Step CountJob)). ys ++ more.kept) none
+      ∙ (sym (take_at more.kept more.gone n refl) ∙ (ap (take n) (sym more.all) ∙ take-map (counted_step work) n xs))) in
+      let same : started setup ⊕⊕ tape.steps ≡ counted_history work (started setup ⊕⊕ take n xs) =
+      ap (λ (ys : List (Step CountJob)). started setup ⊕⊕ ys) steps ∙ sym (counted_more (started setup) (take n xs)) in
+      let world : world_after counting (started setup ⊕⊕ tape.steps) ≡ counted_world work (world_after work (started setup ⊕⊕ take n xs)) =
+      ap (world_after counting) same ∙ world_same work (started setup ⊕⊕ take n xs) in
+      record {
+        kept = take n xs;
+        gone = drop n xs;
+        all = both_parts n xs;
+        clock = replayed.world.clock ∙ ap (λ (w : World CountJob). w.now) world;
+        faces = replayed.world.shown ∙ (ap (λ (w : World CountJob). faces counting w) world ∙ faces_same work (world_after work (started setup ⊕⊕ take n xs)));
+      }

@@ -1,7 +1,7 @@
 -- A core whose steps a tape was told, and a core that makes the steps of the tape.
-use Rattle.std.specs.Prelude.{◌≡◌, true, List, [], map}
+use Rattle.std.specs.Prelude.{◌≡◌, true, List, [], ◌++◌, map}
 use Rattle.cbs_job.specs.Work.{Meaning}
-use Rattle.cbs_steps.specs.History.{Setup, History}
+use Rattle.cbs_steps.specs.History.{Setup, History, faces, world_after}
 use Rattle.cbs_steps.specs.Continuations.{◌⊕⊕◌}
 use Rattle.cbs_steps.specs.declared.step.Step.{Step}
 use Rattle.cbs_core.specs.Agreement.{Agrees, Follows}
@@ -52,3 +52,18 @@ module _ {W : Type 0} where
       → Agrees work first M → begun ≡ record (counted_core work first) { rooms = begun.rooms }
       → empty.steps ≡ [] → Records work first last empty tape → tape.whole ≡ true
       → Follows counting begun other tape.steps → ShowsTheSame other last
+
+  -- The core shows what some of the steps, the first of xs, left of this setup
+  pub record ShowsFirst (work : Meaning W) (setup : Setup) (xs : List (Step W)) (other : CoreHeld CountJob) : Type 0 where
+    pub kept : List (Step W)
+    pub gone : List (Step W)
+    pub all : xs ≡ kept ++ gone
+    pub clock : other.clock ≡ (world_after work (started setup ⊕⊕ kept)).now
+    pub faces : other.faces ≡ faces work (world_after work (started setup ⊕⊕ kept))
+
+  -- A core of this setup made steps from the first on, and an empty tape was told each. Whole or not, each core that agrees
+  -- with the steps of the tape shows what the first steps of the recorded core left, however many
+  abbrev pub AsItBegan : Meaning W → Type 0
+  AsItBegan work = (setup : Setup) (first last : CoreHeld W) (empty tape : Taped) (other : CoreHeld CountJob)
+      → empty.steps ≡ [] → (records : Records work first last empty tape)
+      → Agrees counting other (started setup ⊕⊕ tape.steps) → ShowsFirst work setup records.steps other

@@ -1,6 +1,6 @@
 //! The theorem on cores that make the steps of a tape.
 
-ghost use Rattle.cbs_recorded.specs.Records.{AsItWas, AsItWasFrom};
+ghost use Rattle.cbs_recorded.specs.Records.{AsItWas, AsItWasFrom, AsItBegan};
 
 use cbs_job::Work;
 
@@ -13,7 +13,11 @@ use cbs_job::Work;
 ///
 /// `as_it_was_from`: the same holds if recording began later. The core then begins with what the recorded core held, of
 /// each job with the units that were left.
+///
+/// `as_it_began`: a tape that lost a step has the first ones. A core that makes them has the clock and the servers that
+/// those first steps of the recorded core led to.
 pub fn all_as_it_was<W: Work>()
     ensures as_it_was { AsItWas W.meaning }
     ensures as_it_was_from { AsItWasFrom W.meaning }
+    ensures as_it_began { AsItBegan W.meaning }
 {}

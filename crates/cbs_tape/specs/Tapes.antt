@@ -1,5 +1,5 @@
 -- A tape, as the steps that it has.
-use Rattle.std.specs.Prelude.{◌≡◌, ℕ, ◌+◌, ◌≤◌, Bool, true, false, if◌then◌else◌, List, [], ◌∷◌, ◌++◌}
+use Rattle.std.specs.Prelude.{◌≡◌, ℕ, ◌+◌, ◌≤◌, leb, Bool, true, false, ◌&&◌, if◌then◌else◌, List, [], ◌∷◌, ◌++◌}
 use Rattle.std.specs.List.{AllByRecursion}
 use Rattle.std.proofs.Math.ListN.{replicate}
 use Rattle.cbs_steps.specs.declared.step.Step.{Step}
@@ -56,9 +56,10 @@ pub record HearsAll (xs : List (Step CountJob)) (old new : Taped) : Type 0 where
 abbrev pub Hears : Step CountJob → Taped → Taped → Type 0
 Hears x old new = HearsAll (x ∷ []) old new
 
--- with 31 free bytes a whole tape stays whole, and at most 20 bytes are used
-pub record HasRoom (old new : Taped) : Type 0 where
-  pub whole : old.whole ≡ true → 31 ≤ old.room → new.whole ≡ true
+-- The tape was told a step of a server that a tape can name, or of none. It is whole after that if and only if it was whole
+-- and had 31 free bytes. At most 20 of them were used
+pub record Keeps (named : Bool) (old new : Taped) : Type 0 where
+  pub whole : new.whole ≡ (named && old.whole && leb 31 old.room)
   pub room : old.room ≤ new.room + 20
 
 -- how a tape ends that is whole, or is not

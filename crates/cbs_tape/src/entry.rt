@@ -28,9 +28,9 @@ pub enum Entry {
 /// How the bytes of a tape end.
 #[derive(Clone, Copy, Debug, PartialEq, Eq)]
 pub enum Ending {
-    /// By the mark of the end: each step that was made is there.
+    /// By the mark of the end: the tape has each step that it was told.
     Marked,
-    /// Without that mark, after an entry or within one: more steps may have been made.
+    /// Without that mark, after an entry or within one: it may have been told more.
     Cut,
     /// By bytes that are no entry.
     Unknown,

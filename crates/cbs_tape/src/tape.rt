@@ -1,11 +1,11 @@
 //! A tape that is told each step.
 
-ghost use Rattle.std.specs.Prelude.{◌≡◌, ◌+◌, ◌-◌, ◌<◌, ◌≤◌, ◌^◌, [], true, false, length, vec_len, vec_capacity, IfOk, MatchOption};
+ghost use Rattle.std.specs.Prelude.{◌≡◌, ◌+◌, ◌-◌, ◌<◌, ◌≤◌, ◌^◌, ltb, [], true, false, length, vec_len, vec_capacity, IfOk, MatchOption};
 ghost use Rattle.std.proofs.Math.ListN.{replicate};
 ghost use Rattle.cbs_steps.specs.declared.step.Step.TheVariants as step;
 ghost use Rattle.cbs_tape.specs.Spelling.{HasSpelling};
 ghost use Rattle.cbs_tape.specs.Reading.{told};
-ghost use Rattle.cbs_tape.specs.Tapes.{steps_of, steps_in, ending_of, AreEntries, Tells, HearsAll, Hears, HasRoom};
+ghost use Rattle.cbs_tape.specs.Tapes.{steps_of, steps_in, ending_of, AreEntries, Tells, HearsAll, Hears, Keeps};
 
 use crate::entry::Entry;
 use crate::marks::{END, SERVERS};
@@ -66,7 +66,7 @@ impl<A: Allocator> Tape<A> {
         self.whole
     }
 
-    /// Takes down that a unit ran. Units in a row need a byte of room for up to 64 of them, and at most 10 for more.
+    /// Adds a unit that ran. Units in a row take a byte if they are up to 64, and 10 bytes at most if they are more.
     ///
     /// The step is lost if the tape is not whole, or has 2^64 - 1 units in a row.
     #[tactic(auto, using(crate::proofs::Written::row_length))]
@@ -83,12 +83,12 @@ impl<A: Allocator> Tape<A> {
         }
     }
 
-    /// Takes down that a server accepted a job of so many units.
+    /// Adds a job of so many units that a server accepted.
     ///
     /// The step is lost if the tape is not whole, has less than 31 bytes of room, or the server is not below 64.
     pub fn accepted(&mut self, server: u16, units: u32)
         ensures heard { Hears (step.Submit server (record { units = units })) self.old self.new }
-        ensures kept { server < 64 → HasRoom self.old self.new }
+        ensures kept { Keeps (ltb server 64) self.old self.new }
     {
         match server_of(server) {
             Some(server) => self.put(Entry::Accepted { server, units }),
@@ -96,22 +96,22 @@ impl<A: Allocator> Tape<A> {
         }
     }
 
-    /// Takes down that so many ticks passed.
+    /// Adds so many ticks that passed.
     ///
     /// The step is lost if the tape is not whole, or has less than 31 bytes of room.
     pub fn advanced(&mut self, ticks: u64)
         ensures heard { Hears (step.Advance ticks) self.old self.new }
-        ensures kept { HasRoom self.old self.new }
+        ensures kept { Keeps true self.old self.new }
     {
         self.put(Entry::Advanced(ticks));
     }
 
-    /// Takes down that a server was charged so many ticks.
+    /// Adds so many ticks that a server was charged.
     ///
     /// The step is lost if the tape is not whole, has less than 31 bytes of room, or the server is not below 64.
     pub fn charged(&mut self, server: u16, ticks: u64)
         ensures heard { Hears (step.Charge server ticks) self.old self.new }
-        ensures kept { server < 64 → HasRoom self.old self.new }
+        ensures kept { Keeps (ltb server 64) self.old self.new }
     {
         match server_of(server) {
             Some(server) => self.put(Entry::Charged { server, ticks }),
@@ -119,12 +119,12 @@ impl<A: Allocator> Tape<A> {
         }
     }
 
-    /// Takes down that a server was closed.
+    /// Adds the close of a server.
     ///
     /// The step is lost if the tape is not whole, has less than 31 bytes of room, or the server is not below 64.
     pub fn closed(&mut self, server: u16)
         ensures heard { Hears (step.Close server) self.old self.new }
-        ensures kept { server < 64 → HasRoom self.old self.new }
+        ensures kept { Keeps (ltb server 64) self.old self.new }
     {
         match server_of(server) {
             Some(server) => self.put(Entry::Closed(server)),
@@ -157,7 +157,7 @@ impl<A: Allocator> Tape<A> {
     fn put(&mut self, e: Entry)
         requires { HasSpelling e }
         ensures heard { HearsAll (steps_of e) self.old self.new }
-        ensures kept { HasRoom self.old self.new }
+        ensures kept { Keeps true self.old self.new }
     {
         if !self.whole || self.bytes.capacity() - self.bytes.len() < RESERVE {
             self.give_up();
