@@ -218,16 +218,22 @@ fn status_of<R: Threads + Clock + Sync>(
     status
 }
 
-/// Writes the heading of the output of a file, as `head` writes it, if it is one of several and the output is for people.
-/// An empty line stands before each but the first. If out of memory, writes nothing.
+/// Returns the heading of the output of a file, as `head` writes it. An empty line stands before each but the first.
+fn heading_of(alloc: Global, place: usize, name: &str) -> Result<String, AllocError> {
+    let shown = printable(alloc, name)?;
+    let before = if place > 0 { "\n" } else { "" };
+    format!(in alloc; "{before}==> {shown} <==\n")
+}
+
+/// Writes the heading of the output of a file, if it is one of several and the output is for people. If out of memory,
+/// writes nothing.
 fn write_heading(rt: &HostRuntime, asked: &Asked, place: usize, name: &str) {
     if asked.files.len() < 2 || !is_for_people(asked.action) {
         return;
     }
-    let before = if place > 0 { "\n" } else { "" };
-    if let Ok(shown) = printable(rt.alloc(), name) {
+    if let Ok(heading) = heading_of(rt.alloc(), place, name) {
         let mut out = ToWrite::new(rt.stdout());
-        let _written = write_pieces(&mut out, &[before, "==> ", shown.as_str(), " <==\n"]);
+        let _written = write_pieces(&mut out, &[heading.as_str()]);
     }
 }
 
