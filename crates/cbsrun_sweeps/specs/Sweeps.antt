@@ -15,7 +15,7 @@ abbrev pub AreRuns : List ℕ → LoadFile → ℕ → List RunReport → Type 0
 AreRuns name f first [] = Unit {0}
 AreRuns name f first (r ∷ rs) = IsReportOf name (run_of (with_seed (first + length rs) f)) r × AreRuns name f first rs
 
--- what a run with this seed tells of a server, by the server's report
+-- what a run with this seed tells of a server, from the server's report
 abbrev pub told_by : ℕ → Option ServerReport → ServerSweep
 told_by seed None = no_sweep
 told_by seed (Some r) = run_sweep seed r.figures
