@@ -260,7 +260,8 @@ enum {
     CBS_CALL_OTHER_KIND = CBS_CALL | 2,           /* a house's handle in the place of a client's, or the other way round */
     CBS_CALL_WRONG_COUNT = CBS_CALL | 3,          /* not as many clients as servers */
     CBS_CALL_BAD_MODE = CBS_CALL | 4,             /* neither CBS_SOFT nor CBS_THROTTLED */
-    CBS_CALL_HOUSE_GONE = CBS_CALL | 5            /* the client's house was freed */
+    CBS_CALL_HOUSE_GONE = CBS_CALL | 5,           /* the client's house was freed */
+    CBS_CALL_NO_TAPE = CBS_CALL | 6               /* the house has no tape, or the place for its bytes is too short */
 };
 
 /* ---- From any thread ---- */
@@ -337,6 +338,29 @@ uint32_t cbs_charge(struct cbs_handle *house, uint16_t server, uint64_t ticks);
  * ran the last unit, which was not the last of its job, and no tick has passed since but what it was
  * charged, and no job of this server was taken since. */
 uint32_t cbs_finish(struct cbs_handle *house, uint16_t server);
+
+/* The byte that ends a tape which has each step. */
+#define CBS_TAPE_END 4
+
+/* Tells each step of the house from now on to a new tape: each job that is taken, with its number of units, each unit, each
+ * advance and each charge of a tick or more, and each close. The tape has bytes + 31 bytes of memory, which this call takes;
+ * no other call takes memory for it, and none waits. A step that finds no room is lost, with all that follow, and the tape
+ * keeps those before it. A job that ends early (cbs_finish, cbs_free_unfinished) is lost so, too: no tape can tell it.
+ * A tape that the house had is freed, with what was not taken.
+ * Refuses by CBS_HOUSE_OUT_OF_MEMORY: the house is then as before. */
+uint32_t cbs_tape_open(struct cbs_handle *house, uint32_t bytes);
+
+/* Moves what the tape has so far to the n bytes at out, and writes how many bytes it is. The tape then has all its memory
+ * again, and is told the steps to come. What these calls move, one after another, tells the steps in order. If nothing was
+ * lost, the byte CBS_TAPE_END after the last of it says so.
+ * Refuses by CBS_CALL_NO_TAPE if the house has no tape, or if n is less than the tape's memory. Nothing changes then. */
+uint32_t cbs_tape_take(struct cbs_handle *house, uint8_t *out, size_t n, size_t *length);
+
+/* Writes whether the tape lost a step, so that it has only those before. Refuses by CBS_CALL_NO_TAPE if there is no tape. */
+uint32_t cbs_tape_lost(struct cbs_handle *house, bool *lost);
+
+/* Frees the tape, with what was not taken. The house goes on with none. Refuses by CBS_CALL_NO_TAPE if there is none. */
+uint32_t cbs_tape_close(struct cbs_handle *house);
 
 /* Writes how many ticks a server was charged, in all, and at most for one unit. Refuses by CBS_HOUSE_NO_SUCH_SERVER. */
 uint32_t cbs_charges(struct cbs_handle *house, uint16_t server, uint64_t *total, uint64_t *most);

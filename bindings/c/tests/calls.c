@@ -105,9 +105,13 @@ static void open_again(void) {
 static void no_house(struct cbs_handle *handle, uint32_t status) {
     uint64_t number = UNTOUCHED, other = UNTOUCHED;
     uint32_t kind = 99;
+    uint8_t bytes[64];
+    size_t length = 99;
+    bool lost = true;
     struct cbs_unit unit;
     struct cbs_turn turn;
     struct cbs_view view;
+    memset(bytes, 0x5a, sizeof bytes);
     memset(&unit, 0x5a, sizeof unit);
     memset(&turn, 0x5a, sizeof turn);
     memset(&view, 0x5a, sizeof view);
@@ -117,6 +121,10 @@ static void no_house(struct cbs_handle *handle, uint32_t status) {
     CHECK(cbs_advance(handle, 1) == status);
     CHECK(cbs_charge(handle, 0, 1) == status);
     CHECK(cbs_finish(handle, 0) == status);
+    CHECK(cbs_tape_open(handle, 1) == status);
+    CHECK(cbs_tape_take(handle, bytes, sizeof bytes, &length) == status && length == 99 && untouched(bytes, sizeof bytes));
+    CHECK(cbs_tape_lost(handle, &lost) == status && lost);
+    CHECK(cbs_tape_close(handle) == status);
     CHECK(cbs_charges(handle, 0, &number, &other) == status && number == UNTOUCHED && other == UNTOUCHED);
     CHECK(cbs_now(handle, &number) == status && number == UNTOUCHED);
     CHECK(cbs_idle_span(handle, &number) == status && number == UNTOUCHED);

@@ -30,10 +30,11 @@ static const struct {
     {CBS_CALL_WRONG_COUNT, 0x603, "there are not as many clients as servers"},
     {CBS_CALL_BAD_MODE, 0x604, "the mode is neither soft nor throttled"},
     {CBS_CALL_HOUSE_GONE, 0x605, "the client's house was freed"},
+    {CBS_CALL_NO_TAPE, 0x606, "the house has no tape, or the place is shorter than its memory"},
 };
 
 /* Numbers that are no status, between the kinds of statuses and after their last. */
-static const uint32_t NONE[] = {1, 0x100, 0x105, 0x200, 0x204, 0x300, 0x308, 0x400, 0x403, 0x500, 0x503, 0x600, 0x606, 0x701, UINT32_MAX};
+static const uint32_t NONE[] = {1, 0x100, 0x105, 0x200, 0x204, 0x300, 0x308, 0x400, 0x403, 0x500, 0x503, 0x600, 0x607, 0x701, UINT32_MAX};
 
 /* Checks that a status has this text, all of it if there is room, else a prefix of it, with a zero byte after it, and that nothing is
  * written after that. */

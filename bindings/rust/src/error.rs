@@ -103,6 +103,16 @@ errors! {
 }
 
 errors! {
+    /// Why a house is not recorded.
+    TapeError {
+        /// There is not the memory for a tape.
+        OutOfMemory = 0x303,
+        /// The house has no tape.
+        NoTape = 0x606,
+    }
+}
+
+errors! {
     /// Why a call that serves ends before all is over. Nothing is lost: it may be called again.
     RunError {
         /// There was no memory for a job, which stays in its ring.

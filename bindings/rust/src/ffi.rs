@@ -170,6 +170,10 @@ extern "C" {
     fn cbs_advance(house: *mut Raw, ticks: u64) -> u32;
     fn cbs_charge(house: *mut Raw, server: u16, ticks: u64) -> u32;
     fn cbs_finish(house: *mut Raw, server: u16) -> u32;
+    fn cbs_tape_open(house: *mut Raw, bytes: u32) -> u32;
+    fn cbs_tape_take(house: *mut Raw, out: *mut u8, n: usize, length: *mut usize) -> u32;
+    fn cbs_tape_lost(house: *mut Raw, lost: *mut bool) -> u32;
+    fn cbs_tape_close(house: *mut Raw) -> u32;
     fn cbs_charges(house: *mut Raw, server: u16, total: *mut u64, most: *mut u64) -> u32;
     fn cbs_now(house: *mut Raw, out: *mut u64) -> u32;
     fn cbs_idle_span(house: *mut Raw, out: *mut u64) -> u32;
@@ -318,6 +322,29 @@ pub(crate) fn charge(house: &mut Handle, server: u16, ticks: u64) -> Result<(), 
 #[inline]
 pub(crate) fn finish(house: &mut Handle, server: u16) -> Result<(), Status> {
     answered(unsafe { cbs_finish(house.0.get(), server) }, ())
+}
+
+/// The byte that ends a tape which has each step.
+pub(crate) const TAPE_END: u8 = 4;
+
+pub(crate) fn tape_open(house: &mut Handle, bytes: u32) -> Result<(), Status> {
+    answered(unsafe { cbs_tape_open(house.0.get(), bytes) }, ())
+}
+
+pub(crate) fn tape_take(house: &mut Handle, out: &mut [u8]) -> Result<usize, Status> {
+    let mut length = 0;
+    let status = unsafe { cbs_tape_take(house.0.get(), out.as_mut_ptr(), out.len(), &mut length) };
+    answered(status, length)
+}
+
+pub(crate) fn tape_lost(house: &Handle) -> Result<bool, Status> {
+    let mut lost = false;
+    let status = unsafe { cbs_tape_lost(house.0.get(), &mut lost) };
+    answered(status, lost)
+}
+
+pub(crate) fn tape_close(house: &mut Handle) -> Result<(), Status> {
+    answered(unsafe { cbs_tape_close(house.0.get()) }, ())
 }
 
 #[inline]

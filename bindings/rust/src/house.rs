@@ -1,6 +1,6 @@
 use crate::bell::{Bell, Stopper};
 use crate::doing::Doer;
-use crate::error::{not_answered, HouseError, RunError};
+use crate::error::{not_answered, HouseError, RunError, TapeError};
 use crate::ffi::{self, kind, Handle, Server, Status};
 use crate::live::{Keeper, Live};
 use crate::pacer::{nanos, Next, Pacer, Rounding};
@@ -23,6 +23,8 @@ pub struct House<T = u64> {
     rates: Arc<[Server]>,
     backlog: usize,
     keeper: Option<Keeper>,
+    /// How many bytes of memory the tape has.
+    tape: usize,
 }
 
 /// The jobs of one server, as the crate sees them.
@@ -178,6 +180,7 @@ impl<T> House<T> {
             rates,
             backlog,
             keeper: None,
+            tape: 0,
         }
     }
 
@@ -544,6 +547,65 @@ impl<T> House<T> {
         ffi::finish(&mut self.handle, number(server)?).map_err(HouseError::of)?;
         let token = self.servers[server].current.take();
         Ok(token.expect("the house keeps the token of a job that got a unit"))
+    }
+
+    /// Tells each step of the house from now on to a new tape: each job that is taken, with its number of units, each unit,
+    /// each advance and charge of a tick or more, and each close. The tape has `bytes` and 31 more bytes of memory, and no
+    /// other call takes memory for it. A tape that the house had is dropped, with what was not taken.
+    ///
+    /// A step that finds no room is lost, with all that follow, and the tape keeps those before it. A job that ends early
+    /// (by [`Unit::finish`], or by [`House::into_unfinished`]) is lost so, too: no tape can tell it.
+    ///
+    /// ```
+    /// # use cbs::{House, Mode, Plan};
+    /// # fn main() -> Result<(), Box<dyn std::error::Error>> {
+    /// let mut plan = Plan::new();
+    /// plan.admit(2, 5, Mode::Soft)?;
+    /// let (mut house, mut clients) = plan.open(4, 4)?;
+    /// house.record(1 << 16)?;
+    /// clients[0].send(7, 3).unwrap(); // a job of three units
+    /// for _ in 0..3 {
+    ///     house.turn();
+    /// }
+    /// let mut tape = Vec::new();
+    /// house.end_tape(&mut tape)?;
+    /// assert_eq!(tape, [0x40, 3, 0xC2, 4]); // the job, three units in a row, the end
+    /// # Ok(())
+    /// # }
+    /// ```
+    ///
+    /// Refuses by [`TapeError::OutOfMemory`]: the house is then as before.
+    pub fn record(&mut self, bytes: u32) -> Result<(), TapeError> {
+        ffi::tape_open(&mut self.handle, bytes).map_err(TapeError::of)?;
+        self.tape = bytes as usize + 31;
+        Ok(())
+    }
+
+    /// Appends what the tape has so far to `out`. The tape then has all its memory again, and is told the steps to come.
+    /// What these calls append tells the steps in order.
+    pub fn take_tape(&mut self, out: &mut Vec<u8>) -> Result<(), TapeError> {
+        let before = out.len();
+        out.resize(before + self.tape, 0);
+        let taken = ffi::tape_take(&mut self.handle, &mut out[before..]);
+        out.truncate(before + taken.unwrap_or(0));
+        taken.map(|_| ()).map_err(TapeError::of)
+    }
+
+    /// Returns whether the tape lost a step, so that it has only those before.
+    pub fn tape_lost(&self) -> Result<bool, TapeError> {
+        ffi::tape_lost(&self.handle).map_err(TapeError::of)
+    }
+
+    /// Appends the rest of the tape to `out`, and the mark of its end, unless it lost a step. The house goes on with no
+    /// tape.
+    pub fn end_tape(&mut self, out: &mut Vec<u8>) -> Result<(), TapeError> {
+        let lost = self.tape_lost()?;
+        self.take_tape(out)?;
+        if !lost {
+            out.push(ffi::TAPE_END);
+        }
+        self.tape = 0;
+        ffi::tape_close(&mut self.handle).map_err(TapeError::of)
     }
 
     /// Returns what a server was charged.

@@ -63,7 +63,7 @@ mod unit;
 
 pub use bell::{Bell, Stopper};
 pub use client::Client;
-pub use error::{HouseError, OpenError, PlanError, Refused, RunError, SendError};
+pub use error::{HouseError, OpenError, PlanError, Refused, RunError, SendError, TapeError};
 pub use house::{Charges, Ended, House, Poll, Ran, Turn, View};
 pub use job::{Job, JobError, JobHandle, NotJoined, Payload};
 pub use plan::{Mode, Plan};

@@ -1,5 +1,6 @@
 //! The calls on a house.
 
+ghost use Rattle.cbs_embed.specs.Calls.{OpensTape, HandsOutTape, TellsLost, ClosesTape};
 ghost use Rattle.cbs_embed.specs.Calls.{Runs, Turns, Polls, Advances, ChargesServer, Finishes, ShowsCharges, TellsClock, Spans, Shows, Promises, OnHouse};
 ghost use Rattle.cbs_embed.specs.Handles.{held_by};
 ghost use Rattle.cbs_c.specs.Values.{unit_shown, turn_shown, poll_kind, span_shown, view_shown, promise_low, promise_high};
@@ -8,6 +9,7 @@ ghost use Rattle.cbs_c.specs.Statuses.{Answers, Tells};
 use crate::status::{status_of, tell};
 use crate::values::{Turn, Unit, View, high, kind_of, low, turn_of, unit_of, view_of};
 use cbs_embed::{Handle, calls};
+use std::alloc::Global;
 
 /// Runs one unit, and writes what ran. Returns the status.
 #[unsafe(no_mangle)]
@@ -80,6 +82,54 @@ pub extern "C" fn cbs_finish(house: &mut Handle, server: u16) -> u32
         (held_by house.new) }
 {
     status_of(calls::finish(house, server))
+}
+
+/// Tells the steps of a house from now on to a new tape, in a memory of this many bytes and 31 more. Returns the status.
+#[unsafe(no_mangle)]
+pub extern "C" fn cbs_tape_open(alloc: Global, house: &mut Handle, bytes: u32) -> u32
+    ensures { Answers (OnHouse (OpensTape bytes)) (held_by house.old) result
+        (held_by house.new) }
+{
+    status_of(calls::open_tape(house, alloc, bytes))
+}
+
+/// Hands out what the tape has so far, and writes how many bytes it is. Returns the status. Refuses a place that is shorter
+/// than the memory of the tape.
+#[unsafe(no_mangle)]
+pub extern "C" fn cbs_tape_take(house: &mut Handle, out: &mut [u8], length: &mut usize) -> u32
+    ensures { Tells (OnHouse (HandsOutTape out.old out.new)) (λ n.
+        n) (held_by house.old) length.old result (held_by house.new) length.new }
+{
+    match calls::take_tape(house, out) {
+        Ok(taken) => {
+            *length = taken;
+            0
+        }
+        Err(refusal) => refusal.status(),
+    }
+}
+
+/// Writes whether the tape lost a step. Returns the status.
+#[unsafe(no_mangle)]
+pub extern "C" fn cbs_tape_lost(house: &mut Handle, lost: &mut bool) -> u32
+    ensures { Tells (OnHouse TellsLost) (λ l.
+        l) (held_by house.old) lost.old result (held_by house.new) lost.new }
+{
+    match calls::tape_lost(house) {
+        Ok(answer) => {
+            *lost = answer;
+            0
+        }
+        Err(refusal) => refusal.status(),
+    }
+}
+
+/// Takes the tape from a house, and frees it. Returns the status.
+#[unsafe(no_mangle)]
+pub extern "C" fn cbs_tape_close(house: &mut Handle) -> u32
+    ensures { Answers (OnHouse ClosesTape) (held_by house.old) result (held_by house.new) }
+{
+    status_of(calls::close_tape(house))
 }
 
 /// Writes how many ticks a server was charged, in total and at most for one unit. Returns the status. Refuses a number

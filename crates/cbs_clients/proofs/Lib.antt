@@ -8,6 +8,7 @@ pub mod HouseInvariant
 pub mod Beside
 pub mod ClosedServers
 pub mod MadeSteps
+pub mod TakenTapes
 pub mod Charged
 pub mod Metered
 pub mod Moves

@@ -27,12 +27,14 @@ use Rattle.cbs_host.specs.declared.poll.Poll.{Poll}
 use Rattle.cbs_host.specs.declared.poll.Poll.TheVariants.{Nothing, Took, Closed, Full, OutOfMemory, NoSuchServer}
 use Rattle.cbs_results.specs.Collected.{AllShelvesSame}
 use Rattle.cbs_clients.specs.Rings.{Looked}
-use Rattle.cbs_clients.specs.Houses.{Seat, seat_at, core_of, rings_of, received, known, results_of, handed_of, early_of, Made, LooksOnly, SameHouse, Collects, Polled}
+use Rattle.cbs_clients.specs.Houses.{Seat, seat_at, core_of, rings_of, tape_of, received, known, results_of, handed_of, early_of, Made, LooksOnly, SameHouse, Collects, Polled}
 use Rattle.cbs_clients.specs.Calls.{PollOf}
 use Rattle.cbs_clients.specs.Messages.{jobs_among}
 use Rattle.cbs_clients.specs.Steps.{message_of, messages_of}
 use Rattle.cbs_clients.proofs.StepMessages.{messages_of-append}
 use Rattle.cbs_core.proofs.Laws.{follows_both, allowed_both}
+use Rattle.cbs_recorded.specs.Records.{Recorded}
+use Rattle.cbs_recorded.proofs.Recorded.{recorded_then, recorded_same}
 
 prefix_through : {X : Type 0} (a e b r : List X) → IsPrefix a (e ++ b) → IsPrefix b r → (z : List X) → z ≡ e ++ r → IsPrefix a z
 prefix_through a e b r p q z k =
@@ -74,17 +76,18 @@ module _ {W A : Type 0} {g : Ghosts W} where
 
   -- nothing of a house changed
   pub same_here : (a : House W A g) → SameHouse a a
-  same_here a = record { core = refl; rings = refl; seats = λ s. refl }
+  same_here a = record { core = refl; rings = refl; tape = refl; seats = λ s. refl }
 
   -- nothing changed but whose rings will be looked at
-  pub same_by_ends : (a b : House W A g) → b.core ≡ a.core → b.collector ≡ a.collector → b.rings.ends ≡ a.rings.ends → SameHouse a b
-  same_by_ends a b core shelves ends = record { core = core; rings = rw ends refl; seats = λ s. rw (shelves, ends) refl }
+  pub same_by_ends : (a b : House W A g) → b.core ≡ a.core → b.collector ≡ a.collector → b.rings.ends ≡ a.rings.ends → tape_of b ≡ tape_of a → SameHouse a b
+  same_by_ends a b core shelves ends tape = record { core = core; rings = rw ends refl; tape = tape; seats = λ s. rw (shelves, ends) refl }
 
   -- nothing changed, so no look found anything
   pub looks_same : (a b : House W A g) → SameHouse a b → LooksOnly a b
   looks_same a b h = record {
     core = h.core;
     rings = h.rings;
+    tape = h.tape;
     seats = λ s. let e = ap (λ (x : Seat W). x.known) (h.seats s) in record {
       same = h.seats s ∙ ap (λ ms. record (seat_at a s) { known = ms }) (sym e);
       known = ([], append-nil (known a s) ∙ sym e);
@@ -103,6 +106,7 @@ module _ {W A : Type 0} {g : Ghosts W} (work : Meaning W) where
     keeps_time = allowed_both work (KeepsTime work) (core_of a) (core_of b) xs ys p.steps p.keeps_time q.keeps_time;
     keeps_pace = allowed_both work (KeepsPace work) (core_of a) (core_of b) xs ys p.steps p.keeps_pace q.keeps_pace;
     rings = q.rings ∙ p.rings;
+    recorded = recorded_then work (core_of a) (core_of b) (core_of c) (tape_of a) (tape_of b) (tape_of c) p.recorded q.recorded;
     seats = λ s. record {
       received = (q.seats s).received ∙ (ap (λ ms. ms ++ messages_of s ys) (p.seats s).received
           ∙ (append_assoc (received a s) (messages_of s xs) (messages_of s ys) ∙ ap (λ ms. received a s ++ ms) (sym (messages_of-append s xs ys))));
@@ -120,6 +124,7 @@ module _ {W A : Type 0} {g : Ghosts W} (work : Meaning W) where
     keeps_time = λ M agrees. tt;
     keeps_pace = λ M agrees. tt;
     rings = refl;
+    recorded = recorded_same work (core_of a) (core_of a) (tape_of a) refl;
     seats = λ s. record { received = sym (append-nil (received a s)); known = ([], append-nil (known a s)); handed = refl; early = refl };
   }
 
@@ -130,6 +135,7 @@ module _ {W A : Type 0} {g : Ghosts W} (work : Meaning W) where
     keeps_time = λ M agrees. tt;
     keeps_pace = λ M agrees. tt;
     rings = l.rings;
+    recorded = rw l.tape (recorded_same work (core_of a) (core_of b) (tape_of a) l.core);
     seats = λ s. record {
       received = looks_received a b l s ∙ sym (append-nil (received a s));
       known = (l.seats s).known;
@@ -144,12 +150,13 @@ module _ {W A : Type 0} {g : Ghosts W} (work : Meaning W) where
 
   -- looks at the rings, and more room, are no step
   pub made_room : (a b : House W A g) → Looked a.rings b.rings → Follows work (core_of a) (core_of b) [] → AllShelvesSame a.collector b.collector
-      → Made work a b []
-  made_room a b l steps shelves = record {
+      → Recorded work (core_of a) (core_of b) (tape_of a) (tape_of b) → Made work a b []
+  made_room a b l steps shelves recorded = record {
     steps = steps;
     keeps_time = λ M agrees. tt;
     keeps_pace = λ M agrees. tt;
     rings = l.rings;
+    recorded = recorded;
     seats = λ s. record {
       received = l.received s ∙ sym (append-nil (received a s));
       known = l.known s;
@@ -162,12 +169,14 @@ module _ {W A : Type 0} {g : Ghosts W} (work : Meaning W) where
   pub made_time : (a b : House W A g) (x : Step W) → ((s : ℕ) → message_of s x ≡ []) → Follows work (core_of a) (core_of b) (x ∷ [])
       → ((M : History W) → Agrees work (core_of a) M → KeepsTime work M x)
       → ((M : History W) → Agrees work (core_of a) M → KeepsPace work M x)
-      → b.rings ≡ a.rings → ((s : ℕ) → (handed_of b s ≡ handed_of a s) × (early_of b s ≡ early_of a s)) → Made work a b (x ∷ [])
-  made_time a b x none f keep pace e handed = record {
+      → b.rings ≡ a.rings → ((s : ℕ) → (handed_of b s ≡ handed_of a s) × (early_of b s ≡ early_of a s))
+      → Recorded work (core_of a) (core_of b) (tape_of a) (tape_of b) → Made work a b (x ∷ [])
+  made_time a b x none f keep pace e handed recorded = record {
     steps = f;
     keeps_time = λ M agrees. (keep M agrees, tt);
     keeps_pace = λ M agrees. (pace M agrees, tt);
     rings = rw e refl;
+    recorded = recorded;
     seats = λ s. record {
       received = rw (e, none s) (sym (append-nil (received a s)));
       known = rw (e, none s) ([], append-nil (known a s));
@@ -183,12 +192,14 @@ module _ {W A : Type 0} {g : Ghosts W} (work : Meaning W) where
       → ((s : ℕ) → s ≢ t → (received b s ≡ received a s) × (known b s ≡ known a s))
       → ((s : ℕ) → (handed_of b s ≡ handed_of a s) × (early_of b s ≡ early_of a s)) → Follows work (core_of a) (core_of b) (x ∷ [])
       → ((M : History W) → Agrees work (core_of a) M → KeepsTime work M x)
-      → ((M : History W) → Agrees work (core_of a) M → KeepsPace work M x) → Made work a b (x ∷ [])
-  made_one a b t m x here elsewhere same taken first others handed f keep pace = record {
+      → ((M : History W) → Agrees work (core_of a) M → KeepsPace work M x)
+      → Recorded work (core_of a) (core_of b) (tape_of a) (tape_of b) → Made work a b (x ∷ [])
+  made_one a b t m x here elsewhere same taken first others handed f keep pace recorded = record {
     steps = f;
     keeps_time = λ M agrees. (keep M agrees, tt);
     keeps_pace = λ M agrees. (pace M agrees, tt);
     rings = same;
+    recorded = recorded;
     seats = λ s. record {
       received = elim (cases_eq s t) [
         | inl e ↦ rw (e, here, append-nil (m ∷ [])) taken
@@ -209,7 +220,8 @@ module _ {W A : Type 0} {g : Ghosts W} (work : Meaning W) where
       → ((s : ℕ) → s ≢ t → (received b s ≡ received a s) × (known b s ≡ known a s))
       → ((s : ℕ) → (handed_of b s ≡ handed_of a s) × (early_of b s ≡ early_of a s)) → Follows work (core_of a) (core_of b) (step.Submit t job ∷ [])
       → ((M : History W) → Agrees work (core_of a) M → KeepsTime work M (step.Submit t job))
-      → ((M : History W) → Agrees work (core_of a) M → KeepsPace work M (step.Submit t job)) → Made work a b (step.Submit t job ∷ [])
+      → ((M : History W) → Agrees work (core_of a) M → KeepsPace work M (step.Submit t job))
+      → Recorded work (core_of a) (core_of b) (tape_of a) (tape_of b) → Made work a b (step.Submit t job ∷ [])
   made_job a b t job = made_one a b t (Job job) (step.Submit t job) (rw (eqb_same t) refl) (λ s n. rw (eqb_other t s n) refl)
 
   pub made_end :
@@ -218,7 +230,8 @@ module _ {W A : Type 0} {g : Ghosts W} (work : Meaning W) where
       → ((s : ℕ) → s ≢ t → (received b s ≡ received a s) × (known b s ≡ known a s))
       → ((s : ℕ) → (handed_of b s ≡ handed_of a s) × (early_of b s ≡ early_of a s)) → Follows work (core_of a) (core_of b) (step.Close t ∷ [])
       → ((M : History W) → Agrees work (core_of a) M → KeepsTime work M (step.Close t))
-      → ((M : History W) → Agrees work (core_of a) M → KeepsPace work M (step.Close t)) → Made work a b (step.Close t ∷ [])
+      → ((M : History W) → Agrees work (core_of a) M → KeepsPace work M (step.Close t))
+      → Recorded work (core_of a) (core_of b) (tape_of a) (tape_of b) → Made work a b (step.Close t ∷ [])
   made_end a b t = made_one a b t End (step.Close t) (rw (eqb_same t) refl) (λ s n. rw (eqb_other t s n) refl)
 
   -- a run that finished no job leaves the results

@@ -26,7 +26,8 @@ use Rattle.cbs_steps.specs.declared.error.CoreError.{CoreError}
 use Rattle.cbs_core.specs.Held.{held_at, running, AllSame, OthersSame, EndsJob, end_refusal}
 use Rattle.cbs_clients.specs.Errors.{charge_error, charge_answer}
 use Rattle.cbs_clients.specs.Clients.{sent_by, free, most_jobs, SameClient}
-use Rattle.cbs_clients.specs.Houses.{core_of, rings_of, seat_at, new_seat, results_of, IsHouseOnTime, IsHousePaced, KeepsResults, told_answer, Made, SameHouse, Polled}
+use Rattle.cbs_clients.specs.Houses.{core_of, rings_of, tape_of, seat_at, new_seat, results_of, IsHouseOnTime, IsHousePaced, KeepsResults, told_answer, Made, SameHouse, Polled}
+use Rattle.cbs_recorded.specs.Records.{Loses}
 use Rattle.cbs_clients.specs.Houses.{ServesOn, ServesBy, Collects, NamesJob}
 use Rattle.cbs_clients.specs.Messages.{jobs_among, has_end}
 use Rattle.cbs_host.specs.Meters.{NothingBeyond, NeverCharges}
@@ -46,10 +47,12 @@ use Rattle.cbs_clients.specs.declared.turn.Turn.{Turn}
 
 module _ {W A : Type 0} {g : Ghosts W} where
   -- A house that was opened with these servers. Its core agrees with the history of no steps, nothing was received, and
-  -- no result is kept or was handed out. It is on time and paced, and every list of steps that it may make is punctual.
+  -- no result is kept or was handed out. It has no tape. It is on time and paced, and every list of steps that it may
+  -- make is punctual.
   pub record IsNewHouse (work : Meaning W) (setup : Setup) (h : House W A g) : Type 0 where
     pub agrees : Agrees work (core_of h) (record { setup = setup; steps = [] })
     pub empty : (s : ℕ) → seat_at h s ≡ new_seat
+    pub untold : tape_of h ≡ None
     pub on_time : IsHouseOnTime h
     pub paced : IsHousePaced h
     pub punctual : (steps : List (Step W)) → IsPunctual work (record { setup = setup; steps = steps })
@@ -120,13 +123,15 @@ module _ {W A : Type 0} {g : Ghosts W} where
         → answer ≡ charge_answer (charge_refusal (world_after work M) server ticks)
 
   -- The first job of server s, which got the last unit, ends before its last unit, with its output so far. In hindsight it
-  -- had only the units that it got. That output is put after the results of s. All is on time or paced as it was. If the
-  -- core refuses the end, so does the house, and nothing changed
+  -- had only the units that it got. That output is put after the results of s. All is on time or paced as it was. A tape
+  -- loses the end: it has the steps before it, and is not whole. If the core refuses the end, so does the house, and
+  -- nothing changed
   pub record FinishOf (work : Meaning W) (s : ℕ) (old : House W A g) (answer : Result Completion HouseError) (new : House W A g) : Type 0 where
     pub hindsight : OnOk answer (FollowsInHindsight work (core_of old) (core_of new) s)
     pub job : IfOk answer (λ c. EndsJob work c (held_at (core_of old) s) (held_at (core_of new) s) × OthersSame s (core_of old) (core_of new) × (c.server ≡ s))
     pub collects : IfOk answer (λ c. (seat_at new s ≡ record (seat_at old s) { results = results_of old s ++ c.result ∷ []; early = true })
         × ((t : ℕ) → t ≢ s → seat_at new t ≡ seat_at old t))
+    pub loses : OnOk answer (Loses (tape_of old) (tape_of new))
     pub rings : rings_of new ≡ rings_of old
     pub on_time : IsHouseOnTime old → IsHouseOnTime new
     pub paced : IsHousePaced old → IsHousePaced new

@@ -1,5 +1,5 @@
 -- What a contract says about a house.
-use Rattle.std.specs.Prelude.{ℕ, ◌≡◌, ◌≢◌, ◌⊎◌, ◌+◌, ◌≤◌, ◌<◌, Bool, true, false, Result, Ok, Err, List, [], ◌∷◌, ◌++◌, drop, length, map, slice_get, Some}
+use Rattle.std.specs.Prelude.{ℕ, ◌≡◌, ◌≢◌, ◌⊎◌, ◌+◌, ◌≤◌, ◌<◌, Bool, true, false, Result, Ok, Err, List, [], ◌∷◌, ◌++◌, drop, length, map, slice_get, Option, Some, None}
 use mathlib.Core.List.{IsPrefix}
 use Rattle.cbs_job.specs.Work.{Meaning, whole}
 use Rattle.cbs_job.specs.declared.work.Work.{Ghosts}
@@ -27,6 +27,8 @@ use Rattle.cbs_clients.specs.Meters.{AreMoves, all_steps}
 use Rattle.cbs_clients.specs.Rings.{rings_in, received_in, known_in, Ring}
 use Rattle.cbs_clients.specs.Steps.{messages_of, pops, MayServe}
 use Rattle.cbs_core.specs.Agreement.{Agrees, Follows, AllAllowed, AllOnTime, AllPaced}
+use Rattle.cbs_tape.specs.Tapes.{Taped, HandsOut}
+use Rattle.cbs_recorded.specs.Records.{tape_in, Recorded}
 
 -- What a house has of one server. First the messages received and the messages that it knows to wait in the ring, each
 -- oldest first. Then how many results were handed out, and the results that are kept, in order. Last, whether one of
@@ -60,6 +62,10 @@ module _ {W A : Type 0} {g : Ghosts W} where
   -- what the house's core holds
   abbrev pub core_of : House W A g → CoreHeld W
   core_of h = h.core
+
+  -- the tape that the house's steps are told to, if there is one
+  abbrev pub tape_of : House W A g → Option Taped
+  tape_of h = tape_in h.tape
 
   -- the house is on time: its core is on time
   abbrev pub IsHouseOnTime : House W A g → Type 0
@@ -126,37 +132,63 @@ module _ {W A : Type 0} {g : Ghosts W} where
   -- The house made these steps. Each history that its core agreed with, followed by the steps, is one that its core
   -- agrees with now. The rings are the same, each server's messages among the steps were taken, and no result was
   -- handed out. If all was on time, each step that takes nobody's time keeps all on time. If all was paced, each step
-  -- that advances quietly keeps all paced.
+  -- that advances quietly keeps all paced. The tape, if there is one, was told steps that lead from the old core to the
+  -- new one.
   pub record Made (work : Meaning W) (old new : House W A g) (xs : List (Step W)) : Type 0 where
     pub steps : Follows work (core_of old) (core_of new) xs
     pub keeps_time : AllAllowed work (KeepsTime work) (core_of old) xs
     pub keeps_pace : AllAllowed work (KeepsPace work) (core_of old) xs
     pub rings : rings_of new ≡ rings_of old
+    pub recorded : Recorded work (core_of old) (core_of new) (tape_of old) (tape_of new)
     pub seats : (s : ℕ) → TakesMessages (messages_of s xs) (seat_at old s) (seat_at new s)
 
   -- the house looked at its rings, and did nothing else
   pub record LooksOnly (old new : House W A g) : Type 0 where
     pub core : core_of new ≡ core_of old
     pub rings : rings_of new ≡ rings_of old
+    pub tape : tape_of new ≡ tape_of old
     pub seats : (s : ℕ) → SeesMore (seat_at old s) (seat_at new s)
 
   -- nothing of the house changed
   pub record SameHouse (old new : House W A g) : Type 0 where
     pub core : core_of new ≡ core_of old
     pub rings : rings_of new ≡ rings_of old
+    pub tape : tape_of new ≡ tape_of old
     pub seats : (s : ℕ) → seat_at new s ≡ seat_at old s
 
   -- the results of server s were handed out: none of them is kept, and all are counted; nothing else changed
   pub record HandsOutResults (s : ℕ) (old new : House W A g) : Type 0 where
     pub core : core_of new ≡ core_of old
     pub rings : rings_of new ≡ rings_of old
+    pub tape : tape_of new ≡ tape_of old
     pub seat : seat_at new s ≡ record (seat_at old s) { results = []; handed = result_count old s }
     pub others : (t : ℕ) → t ≢ s → seat_at new t ≡ seat_at old t
+
+  -- the tape handed out what it had: n bytes at the start of a buffer; nothing else changed
+  pub record TakesTape (n : ℕ) (old new : House W A g) (before after : List ℕ) : Type 0 where
+    pub had : Taped
+    pub has : Taped
+    pub old_tape : tape_of old ≡ Some had
+    pub new_tape : tape_of new ≡ Some has
+    pub handed : HandsOut n had has before after
+    pub core : core_of new ≡ core_of old
+    pub rings : rings_of new ≡ rings_of old
+    pub seats : (s : ℕ) → seat_at new s ≡ seat_at old s
 
   -- why the results of server s are not handed out: there is no such server, or memory was refused
   abbrev pub KeepsBack : House W A g → ℕ → HouseError → Type 0
   KeepsBack h s e = ((e ≡ house_error.NoSuchServer) × (length (core_of h).faces ≤ s))
       ⊎ ((e ≡ house_error.OutOfMemory) × (s < length (core_of h).faces))
+
+-- whether the tape is whole, if there is one
+abbrev pub whole_in : Option Taped → Option Bool
+whole_in None = None
+whole_in (Some tape) = Some tape.whole
+
+-- a buffer of n bytes is too short for a tape, or there is no tape
+abbrev pub IsTooShort : Option Taped → ℕ → Type 0
+IsTooShort None n = Unit {0}
+IsTooShort (Some tape) n = n < tape.size
 
 -- the result of a read of a server, by the core's result, which refuses only if there is no such server
 abbrev pub told_answer : {T : Type 0} → Result T CoreError → Result T HouseError

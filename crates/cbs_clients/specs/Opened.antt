@@ -13,7 +13,7 @@ use Rattle.cbs_clients.specs.declared.error.HouseError.TheVariants.{BadBacklog, 
 use Rattle.cbs_clients.specs.declared.house.House.{House}
 use Rattle.cbs_clients.specs.declared.message.Message.{Message}
 use Rattle.cbs_clients.specs.Clients.{server_of, sent_by, free, IsOpened}
-use Rattle.cbs_clients.specs.Houses.{core_of, rings_of, seat_at, new_seat}
+use Rattle.cbs_clients.specs.Houses.{core_of, rings_of, tape_of, seat_at, new_seat}
 
 -- why a house is not opened, if it is not: a backlog is 1 to 4096 jobs, and a ring 1 to 1024 messages
 abbrev pub open_refusal : ℕ → ℕ → Option HouseError
@@ -34,13 +34,14 @@ module _ {W A : Type 0} {g : Ghosts W} where
     pub sent : sent_by c ≡ []
     pub free : free c ≡ slots
 
-  -- The house has this core, of at most 64 servers, with nothing received and no result. It has one client for each
+  -- The house has this core, of at most 64 servers, with nothing received, no result and no tape. It has one client for each
   -- server, in order of their numbers. The clients were opened with the house, and have sent nothing into their rings
   -- of so many slots.
   pub record HousesCore (core : CoreHeld W) (ring : ℕ) (h : House W A g) (cs : List (Client W A g)) : Type 0 where
     pub same : core_of h ≡ core
     pub few : length core.faces ≤ most_servers
     pub empty : (s : ℕ) → seat_at h s ≡ new_seat
+    pub untold : tape_of h ≡ None
     pub servers : map server_of cs ≡ range_with_len 0 (length core.faces)
     pub unused : All (IsUnused ring) cs
     pub opened : All (IsOpened (rings_of h)) cs

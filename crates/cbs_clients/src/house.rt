@@ -10,7 +10,9 @@ use crate::rings::Rings;
 use cbs_core::{Charges, Core, CoreError, LIMIT, Ran, ServerView};
 use cbs_host::{Meter, Poll};
 use cbs_job::{Completion, Work};
+use cbs_recorded::{advance_told, charge_told, close_told, finish_told, run_told, submit_told};
 use cbs_results::Collector;
+use cbs_tape::Tape;
 use std::alloc::{Allocator, Global};
 
 /// A house: it owns the core, takes the messages of the clients, and keeps the results.
@@ -20,6 +22,8 @@ pub struct House<W: Work, A: Allocator = Global> {
     pub(crate) core: Core<W, A>,
     pub(crate) rings: Rings<W, A>,
     pub(crate) collector: Collector<A>,
+    // Boxed, so that a house with no tape is a word longer, and no more.
+    pub(crate) tape: Option<Box<Tape<A>, A>>,
     ghost housed: { Housed W.meaning core rings collector },
 }
 
@@ -30,16 +34,18 @@ impl<W: Work, A: Allocator> Drop for House<W, A> {
             core: _,
             rings: _,
             collector: _,
+            tape: _,
         } = self;
     }
 }
 
 impl<W: Work, A: Allocator> House<W, A> {
-    ghost use Rattle.std.specs.Prelude.{ℕ, ◌≡◌, ◌↔◌, ◌⊎◌, IsTrue, ◌<◌, ◌≤◌, ◌-◌, min, true, [], ◌++◌, length, IfSome, IfNone};
+    ghost use Rattle.std.specs.Prelude.{ℕ, ◌≡◌, ◌↔◌, ◌⊎◌, IsTrue, ◌<◌, ◌≤◌, ◌-◌, min, true, [], ◌++◌, length, IfSome, IfNone, IsNone};
     ghost use Rattle.cbs_core.specs.Held.{front_output, held_at, is_running, AllSame, IsClosed};
     ghost use Rattle.cbs_clients.specs.Calls.{PollOf, RunOf, RunBy, AsksMeter, AdvanceOf, ChargeOf, FinishOf, ChargesLast, ChargesOf, ClockOf, SpanOf, ViewOf, PromiseOf, LooksAtRing};
+    ghost use Rattle.cbs_recorded.specs.Records.{tape_in};
     ghost use Rattle.cbs_clients.specs.Clients.{server_of, sent_by, IsOpened};
-    ghost use Rattle.cbs_clients.specs.Houses.{core_of, rings_of, received, known, IsHousePaced, KeepsResults, Made, LooksOnly, Polled, SameHouse, CanTake};
+    ghost use Rattle.cbs_clients.specs.Houses.{core_of, rings_of, tape_of, seat_at, received, known, IsHousePaced, KeepsResults, Made, LooksOnly, Polled, SameHouse, TakesTape, IsTooShort, whole_in, CanTake};
     ghost use Rattle.cbs_clients.specs.Rings.{KnowsNone};
     ghost use Rattle.cbs_clients.specs.Meters.{charge_steps};
 
@@ -49,6 +55,50 @@ impl<W: Work, A: Allocator> House<W, A> {
         ensures few { result ≤ most_servers }
     {
         self.core.servers()
+    }
+
+    /// Gives the house a tape, or none, and returns the one that it had. A house that was opened has none.
+    ///
+    /// From then on the tape is told each step: a job that a poll takes, with its units, a unit, an advance or a charge
+    /// of a tick or more, a close. A Run with nobody ready is not told. No call takes memory for it, and no call waits: a
+    /// step that finds no room is lost, as [`Tape`] says.
+    ///
+    /// An early end of a job ([`finish`](House::finish)) is no step, so the tape loses it, and is not whole after it.
+    pub fn record(&mut self, tape: Option<Box<Tape<A>, A>>) -> Option<Box<Tape<A>, A>>
+        ensures before { tape_in result ≡ tape_of self.old }
+        ensures after { tape_of self.new ≡ tape_in tape }
+        ensures core { core_of self.new ≡ core_of self.old }
+        ensures rings { rings_of self.new ≡ rings_of self.old }
+        ensures seats { (s : ℕ) → seat_at self.new s ≡ seat_at self.old s }
+    {
+        std::mem::replace(&mut self.tape, tape)
+    }
+
+    /// Hands out what the tape has so far, as [`Tape::take`] does: puts it at the start of `out`, and returns how many
+    /// bytes it is. The tape then has no step, and is told those to come. So a house can be recorded for ever in bounded
+    /// memory.
+    ///
+    /// Returns `None`, and changes nothing, exactly if the house has no tape, or `out` is shorter than the memory of its
+    /// tape.
+    pub fn take_tape(&mut self, out: &mut [u8]) -> Option<usize>
+        ensures taken { IfSome result (λ n. TakesTape n self.old self.new out.old out.new) }
+        ensures none { IsNone result ↔ IsTooShort (tape_of self.old) (length out.old) }
+        ensures same { IfNone result (SameHouse self.old self.new × (out.new ≡ out.old)) }
+    {
+        match &mut self.tape {
+            None => None,
+            Some(tape) => tape.take(out),
+        }
+    }
+
+    /// Returns whether the tape has each step that it was told, or `None` if the house has no tape.
+    pub fn tape_is_whole(&self) -> Option<bool>
+        ensures { result ≡ whole_in (tape_of self.now) }
+    {
+        match &self.tape {
+            None => None,
+            Some(tape) => Some(tape.is_whole()),
+        }
     }
 
     /// Returns whether a server is there and closed.
@@ -196,12 +246,12 @@ impl<W: Work, A: Allocator> House<W, A> {
     {
         match self.rings.take(server) {
             Message::Job(task) => {
-                let number = self.core.submit_reserved(server, task);
+                let number = submit_told(&mut self.core, &mut self.tape, server, task);
                 self.collector.expect_reserved(server);
                 Poll::Took(number)
             }
             Message::End => {
-                self.core.close_open(server);
+                close_told(&mut self.core, &mut self.tape, server);
                 Poll::Closed
             }
         }
@@ -213,7 +263,7 @@ impl<W: Work, A: Allocator> House<W, A> {
     pub fn run(&mut self) -> Ran
         ensures { RunOf W.meaning self.old result self.new }
     {
-        let ran = self.core.run();
+        let ran = run_told(&mut self.core, &mut self.tape);
         if let Ran::Done(done) = ran {
             self.collector.take_expected(done);
         }
@@ -258,7 +308,7 @@ impl<W: Work, A: Allocator> House<W, A> {
     pub fn advance(&mut self, n: u64) -> Result<(), HouseError>
         ensures { AdvanceOf W.meaning n self.old result self.new }
     {
-        match self.core.advance(n) {
+        match advance_told(&mut self.core, &mut self.tape, n) {
             Ok(()) => Ok(()),
             Err(_) => Err(HouseError::ClockEnd),
         }
@@ -296,7 +346,7 @@ impl<W: Work, A: Allocator> House<W, A> {
     pub fn charge_server(&mut self, server: u16, ticks: u64) -> Result<(), HouseError>
         ensures { ChargeOf W.meaning server ticks self.old result self.new }
     {
-        match self.core.charge(server, ticks) {
+        match charge_told(&mut self.core, &mut self.tape, server, ticks) {
             Ok(()) => Ok(()),
             Err(error) => Err(HouseError::of_charge(error)),
         }
@@ -313,11 +363,11 @@ impl<W: Work, A: Allocator> House<W, A> {
     /// - [`HouseError::NotRunning`], unless the server ran the last unit and no tick has passed since, except those
     ///   charged for the unit. The same if that unit was the last of its job, or if the server accepted a job since.
     ///
-    /// A refusal changes nothing.
+    /// A refusal changes nothing. A tape loses the end: it has the steps before it, and is not whole.
     pub fn finish(&mut self, server: u16) -> Result<Completion, HouseError>
         ensures { FinishOf W.meaning server self.old result self.new }
     {
-        match self.core.finish(server) {
+        match finish_told(&mut self.core, &mut self.tape, server) {
             Ok(done) => {
                 self.collector.take_early(done);
                 Ok(done)

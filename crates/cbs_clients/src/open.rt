@@ -123,6 +123,7 @@ fn house_of<W: Work, A: Allocator + Copy>(
         core,
         rings,
         collector,
+        tape: None,
     };
     Ok((house, clients))
 }

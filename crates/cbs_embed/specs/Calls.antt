@@ -1,5 +1,5 @@
 -- What a call on a handle does to what the handle holds: the effect of the call on the house or client, or a refusal.
-use Rattle.std.specs.Prelude.{ℕ, slice_get, ◌≡◌, ◌↔◌, IsTrue, ◌+◌, ◌<◌, ◌≤◌, Option, Some, None, Result, Ok, Err, length, map}
+use Rattle.std.specs.Prelude.{ℕ, slice_get, ◌≡◌, ◌↔◌, IsTrue, ◌+◌, ◌<◌, ◌≤◌, Bool, true, not, List, [], Option, Some, None, Result, Ok, Err, length, map}
 use Rattle.std.specs.Global.{Global}
 use Rattle.cbs_core.specs.Agreement.{Agrees}
 use Rattle.cbs_job.specs.declared.completion.Completion.{Completion}
@@ -10,11 +10,12 @@ use Rattle.cbs_steps.specs.declared.reply.Ran.{Ran}
 use Rattle.cbs_steps.specs.declared.reply.Ran.TheVariants as ran
 use Rattle.cbs_clients.specs.Calls.{PollOf, RunOf, TurnOf, AdvanceOf, ChargeOf, FinishOf, ChargesOf, ClockOf, SpanOf, ViewOf, PromiseOf, LooksAtRing, SendOf, EndOf}
 use Rattle.cbs_clients.specs.Clients.{free, slots_of}
-use Rattle.cbs_clients.specs.Houses.{core_of, IsHouseOnTime, IsHousePaced, received, HandsOutResults}
+use Rattle.cbs_tape.specs.Tapes.{Taped}
+use Rattle.cbs_clients.specs.Houses.{core_of, rings_of, seat_at, tape_of, SameHouse, TakesTape, IsTooShort, whole_in, IsHouseOnTime, IsHousePaced, received, HandsOutResults}
 use Rattle.cbs_clients.specs.Messages.{jobs_among}
 use Rattle.cbs_clients.specs.UntilClosed.{IsOver}
 use Rattle.cbs_clients.specs.declared.client.Client as client
-use Rattle.cbs_clients.specs.declared.error.HouseError.TheVariants.{NoSuchServer}
+use Rattle.cbs_clients.specs.declared.error.HouseError.TheVariants.{NoSuchServer, OutOfMemory}
 use Rattle.cbs_clients.specs.declared.house.House as house
 use Rattle.cbs_host.specs.declared.poll.Poll.{Poll}
 use Rattle.cbs_job.specs.Tasks.{task_refusal}
@@ -23,7 +24,7 @@ use Rattle.cbs_embed.specs.contracts.job.UnitJobWork.TheImpl.{ghosts}
 use Rattle.cbs_embed.specs.declared.held.Held.{Held}
 use Rattle.cbs_embed.specs.declared.held.Held.TheVariants.{House, Client}
 use Rattle.cbs_embed.specs.declared.job.UnitJob.{UnitJob}
-use Rattle.cbs_embed.specs.declared.refusal.HandleError.TheVariants.{NotOpen, OtherKind, HouseGone}
+use Rattle.cbs_embed.specs.declared.refusal.HandleError.TheVariants.{NotOpen, OtherKind, HouseGone, NoTape}
 use Rattle.cbs_embed.specs.declared.refusal.Refusal.{Refusal}
 use Rattle.cbs_embed.specs.declared.refusal.Refusal.TheVariants as refused
 use Rattle.cbs_embed.specs.declared.told.Turn.{Turn}
@@ -150,6 +151,37 @@ abbrev pub Finishes : ℕ → TheHouse → Result (Unit {0}) Refusal → TheHous
 Finishes s old (Ok x) new = FinishesAndDrops s old new
 Finishes s old (Err (refused.House e)) new = FinishOf counting s old (Err e) new
 Finishes s old (Err _) new = ⊥
+
+-- a tape with no step, in a memory of this many bytes and 31 more
+abbrev pub empty_tape : ℕ → Taped
+empty_tape bytes = record { steps = []; whole = true; room = bytes + 31; size = bytes + 31 }
+
+-- nothing of the house changed but its tape
+pub record ChangesTape (old new : TheHouse) : Type 0 where
+  pub core : core_of new ≡ core_of old
+  pub rings : rings_of new ≡ rings_of old
+  pub seats : (s : ℕ) → seat_at new s ≡ seat_at old s
+
+-- the house has a new tape, and nothing else of it changed; or there is no memory for one, and the house is the same
+abbrev pub OpensTape : ℕ → TheHouse → Result (Unit {0}) Refusal → TheHouse → Type 0
+OpensTape bytes old (Ok x) new = (tape_of new ≡ Some (empty_tape bytes)) × ChangesTape old new
+OpensTape bytes old (Err e) new = (e ≡ refused.House OutOfMemory) × (new ≡ old)
+
+-- the tape handed out what it had, so many bytes; or the house has no tape for a place of this length, and nothing changed
+abbrev pub HandsOutTape : List ℕ → List ℕ → TheHouse → Result ℕ Refusal → TheHouse → Type 0
+HandsOutTape before after old (Ok n) new = TakesTape n old new before after
+HandsOutTape before after old (Err e) new =
+    (e ≡ refused.Handle NoTape) × IsTooShort (tape_of old) (length before) × SameHouse old new × (after ≡ before)
+
+-- the result is whether the tape lost a step, or that the house has no tape; the house is the same
+abbrev pub TellsLost : TheHouse → Result Bool Refusal → TheHouse → Type 0
+TellsLost old (Ok lost) new = (whole_in (tape_of old) ≡ Some (not lost)) × (new ≡ old)
+TellsLost old (Err e) new = (e ≡ refused.Handle NoTape) × (tape_of old ≡ None) × (new ≡ old)
+
+-- the house had a tape, and has none; or it had none, and is the same
+abbrev pub ClosesTape : TheHouse → Result (Unit {0}) Refusal → TheHouse → Type 0
+ClosesTape old (Ok x) new = (tape : Taped) × (tape_of old ≡ Some tape) × (tape_of new ≡ None) × ChangesTape old new
+ClosesTape old (Err e) new = (e ≡ refused.Handle NoTape) × (tape_of old ≡ None) × (tape_of new ≡ None) × ChangesTape old new
 
 -- the result is what server s was charged, or that the house has no such server; the house is the same
 abbrev pub ShowsCharges : ℕ → TheHouse → Result charges.Charges Refusal → TheHouse → Type 0

@@ -1,5 +1,6 @@
 //! The calls on a house or a client in a handle.
 
+ghost use Rattle.cbs_embed.specs.Calls.{OpensTape, HandsOutTape, TellsLost, ClosesTape};
 ghost use Rattle.cbs_embed.specs.Calls.{OnHeld, InClient, Runs, Turns, Polls, Advances, ChargesServer, Finishes, ShowsCharges, TellsClock, Spans, Shows, Promises, Sends, Ends, Waits, OnHouse};
 ghost use Rattle.cbs_embed.specs.Handles.{held_by};
 ghost use Rattle.cbs_embed.specs.Paces.{Asks, BeginsPace, EndsUnit};
@@ -13,6 +14,7 @@ use crate::{in_time, on_client, on_house};
 use cbs_core::{Charges, ServerView};
 use cbs_house::Poll;
 use cbs_pacer::{Pacer, Rounding, Tick};
+use std::alloc::Global;
 
 /// Runs one unit, as [`House::run`] does. Returns what ran, and its token.
 pub fn run(handle: &mut Handle) -> Result<Unit, Refusal>
@@ -60,6 +62,40 @@ pub fn finish(handle: &mut Handle, server: u16) -> Result<(), Refusal>
         (held_by handle.new) }
 {
     on_house::finish(handle.house_mut()?, server)
+}
+
+/// Tells the steps of the house from now on to a new tape, in a memory of this many bytes and 31 more, as
+/// [`House::record`] does. A tape that the house had is dropped. Refuses by [`HouseError::OutOfMemory`].
+pub fn open_tape(handle: &mut Handle, alloc: Global, bytes: u32) -> Result<(), Refusal>
+    ensures { OnHouse (OpensTape bytes) (held_by handle.old) result (held_by handle.new) }
+{
+    on_house::open_tape(handle.house_mut()?, alloc, bytes)
+}
+
+/// Hands out what the tape has so far, as [`House::take_tape`] does. Refuses by [`HandleError::NoTape`] if the house has
+/// no tape, or the place is shorter than the memory of the tape. After a refusal the place is unchanged.
+pub fn take_tape(handle: &mut Handle, out: &mut [u8]) -> Result<usize, Refusal>
+    ensures taken { OnHouse (HandsOutTape out.old out.new) (held_by handle.old) result
+        (held_by handle.new) }
+    ensures unchanged { OnErr result (out.new ≡ out.old) }
+{
+    on_house::take_tape(handle.house_mut()?, out)
+}
+
+/// Returns whether the tape lost a step, so that it has only those before. Refuses by [`HandleError::NoTape`] if the house
+/// has no tape.
+pub fn tape_lost(handle: &mut Handle) -> Result<bool, Refusal>
+    ensures { OnHouse TellsLost (held_by handle.old) result (held_by handle.new) }
+{
+    on_house::tape_lost(handle.house_mut()?)
+}
+
+/// Takes the tape from the house, and drops it with all that was not handed out. Refuses by [`HandleError::NoTape`] if the
+/// house has no tape.
+pub fn close_tape(handle: &mut Handle) -> Result<(), Refusal>
+    ensures { OnHouse ClosesTape (held_by handle.old) result (held_by handle.new) }
+{
+    on_house::close_tape(handle.house_mut()?)
 }
 
 /// Returns what a server was charged, as [`House::charges`] does.

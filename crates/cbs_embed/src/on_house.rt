@@ -1,14 +1,18 @@
 //! What the calls on a handle do to its house.
 
 ghost use Rattle.cbs_clients.specs.Houses.{NamesJob};
+ghost use Rattle.std.specs.Prelude.{◌≡◌, IfOk};
+ghost use Rattle.cbs_embed.specs.Calls.{OpensTape, HandsOutTape, TellsLost, ClosesTape, empty_tape};
 ghost use Rattle.cbs_embed.specs.Calls.{Drops, Runs, Turns, Polls, Advances, ChargesServer, Finishes, ShowsCharges, TellsClock, Spans, Shows, Promises, NamesToken};
 ghost use Rattle.cbs_embed.specs.Jobs.{counting};
 
 use crate::job::UnitJob;
-use crate::refusal::Refusal;
+use crate::refusal::{HandleError, Refusal};
 use crate::told::{Turn, Unit};
 use cbs_core::{Charges, Ran, ServerView};
 use cbs_house::{House, HouseError, Poll};
+use cbs_tape::Tape;
+use std::alloc::{AllocError, Global};
 
 /// Returns the token of the job in the result of a run, or 0 if no job got a unit.
 pub(crate) fn token_of(house: &House<UnitJob>, ran: Ran) -> u64
@@ -89,6 +93,61 @@ pub(crate) fn finish(house: &mut House<UnitJob>, server: u16) -> Result<(), Refu
             Ok(())
         }
         Err(error) => Err(Refusal::House(error)),
+    }
+}
+
+/// Tells the steps of a house from now on to a new tape, in a memory of this many bytes and 31 more. A tape that the
+/// house had is dropped.
+pub(crate) fn open_tape(
+    house: &mut House<UnitJob>,
+    alloc: Global,
+    bytes: u32,
+) -> Result<(), Refusal>
+    ensures { OpensTape bytes house.old result house.new }
+{
+    match new_tape(alloc, bytes) {
+        Ok(tape) => {
+            drop(house.record(Some(tape)));
+            Ok(())
+        }
+        Err(_) => Err(Refusal::House(HouseError::OutOfMemory)),
+    }
+}
+
+/// Returns a tape in a box, in a memory of this many bytes and 31 more. The only error is out of memory.
+fn new_tape(alloc: Global, bytes: u32) -> Result<Box<Tape>, AllocError>
+    ensures { IfOk result (λ tape. tape.value ≡ empty_tape bytes) }
+{
+    Ok(Box::new(alloc, Tape::new(alloc, bytes)?)?)
+}
+
+/// Hands out what the tape of a house has so far.
+pub(crate) fn take_tape(house: &mut House<UnitJob>, out: &mut [u8]) -> Result<usize, Refusal>
+    ensures { HandsOutTape out.old out.new house.old result house.new }
+{
+    match house.take_tape(out) {
+        Some(taken) => Ok(taken),
+        None => Err(Refusal::Handle(HandleError::NoTape)),
+    }
+}
+
+/// Returns whether the tape of a house lost a step.
+pub(crate) fn tape_lost(house: &mut House<UnitJob>) -> Result<bool, Refusal>
+    ensures { TellsLost house.old result house.new }
+{
+    match house.tape_is_whole() {
+        Some(whole) => Ok(!whole),
+        None => Err(Refusal::Handle(HandleError::NoTape)),
+    }
+}
+
+/// Takes the tape from a house, and drops it.
+pub(crate) fn close_tape(house: &mut House<UnitJob>) -> Result<(), Refusal>
+    ensures { ClosesTape house.old result house.new }
+{
+    match house.record(None) {
+        Some(_tape) => Ok(()),
+        None => Err(Refusal::Handle(HandleError::NoTape)),
     }
 }
 

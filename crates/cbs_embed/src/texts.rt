@@ -6,7 +6,7 @@ use cbs_job::TaskError;
 use cbs_rate::{AdmitError, RateError};
 
 /// Each refusal with its text, which is the text that the error's `Display` writes.
-static TEXTS: [(Refusal, &str); 23] = [
+static TEXTS: [(Refusal, &str); 24] = [
     (
         Refusal::Rate(RateError::ZeroBudget),
         "the budget is 0: a reservation needs a budget of at least 1 tick",
@@ -89,6 +89,10 @@ static TEXTS: [(Refusal, &str); 23] = [
     (
         Refusal::Handle(HandleError::HouseGone),
         "the client's house was freed",
+    ),
+    (
+        Refusal::Handle(HandleError::NoTape),
+        "the house has no tape, or the place is shorter than its memory",
     ),
 ];
 

@@ -20,13 +20,14 @@ use Rattle.cbs_clients.proofs.RingLooks.{prefix_along}
 module _ {W A : Type 0} {g : Ghosts W} where
   -- a look that sees nothing new
   pub looks_none : (a : House W A g) → LooksOnly a a
-  looks_none a = record { core = refl; rings = refl; seats = λ s. record { same = refl; known = ([], append-nil (known a s)) } }
+  looks_none a = record { core = refl; rings = refl; tape = refl; seats = λ s. record { same = refl; known = ([], append-nil (known a s)) } }
 
   -- two looks
   pub looks_then : (a b c : House W A g) → LooksOnly a b → LooksOnly b c → LooksOnly a c
   looks_then a b c p q = record {
     core = q.core ∙ p.core;
     rings = q.rings ∙ p.rings;
+    tape = q.tape ∙ p.tape;
     seats = λ s. record {
       same = (q.seats s).same ∙ ap (λ (x : Seat W). record x { known = known c s }) (p.seats s).same;
       known = prefix_along (known a s) (known b s) (known c s) (p.seats s).known (q.seats s).known;

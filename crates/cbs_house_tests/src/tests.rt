@@ -20,6 +20,7 @@ mod naps;
 mod pacing;
 mod patience;
 mod polling;
+mod recording;
 mod rows;
 mod serving;
 mod turning;

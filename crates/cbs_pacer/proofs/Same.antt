@@ -17,4 +17,4 @@ seen_same {W = W} x y e = record {
 
 module _ {W A : Type 0} {g : Ghosts W} (work : Meaning W) where
   pub made_same : (a b : House W A g) → SameHouse a b → Made work a b []
-  made_same a b h = made_look work a b (record { core = h.core; rings = h.rings; seats = λ s. seen_same (seat_at a s) (seat_at b s) (h.seats s) })
+  made_same a b h = made_look work a b (record { core = h.core; rings = h.rings; tape = h.tape; seats = λ s. seen_same (seat_at a s) (seat_at b s) (h.seats s) })

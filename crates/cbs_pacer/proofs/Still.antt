@@ -11,6 +11,7 @@ use Rattle.cbs_steps.specs.History.{History, ◌⊕◌, world_after}
 use Rattle.cbs_steps.specs.declared.step.Step.TheVariants.{Advance}
 use Rattle.cbs_clients.specs.declared.house.House.{House}
 use Rattle.cbs_clients.specs.Houses.{core_of, received, known, Made}
+use Rattle.cbs_clients.proofs.MadeSteps.{made_nothing}
 
 module _ {W : Type 0} (work : Meaning W) where
   -- it leaves the world, and the core
@@ -30,5 +31,6 @@ module _ {W A : Type 0} {g : Ghosts W} (work : Meaning W) where
     keeps_time = λ M agrees. (λ quiet on. rw (world_still work (core_of a) M n none agrees) on, tt);
     keeps_pace = λ M agrees. (λ quiet on. rw (world_still work (core_of a) M n none agrees) on, tt);
     rings = refl;
+    recorded = (made_nothing work a).recorded;
     seats = λ s. record { received = sym (append-nil (received a s)); known = ([], append-nil (known a s)); handed = refl; early = refl };
   }

@@ -1,5 +1,5 @@
 -- A core whose steps a tape was told, and a core that makes the steps of the tape.
-use Rattle.std.specs.Prelude.{◌≡◌, true, List, [], ◌++◌, map}
+use Rattle.std.specs.Prelude.{◌≡◌, true, false, List, [], ◌++◌, map, Option, Some, None, Box}
 use Rattle.cbs_job.specs.Work.{Meaning}
 use Rattle.cbs_steps.specs.History.{Setup, History, faces, world_after}
 use Rattle.cbs_steps.specs.Continuations.{◌⊕⊕◌}
@@ -15,6 +15,21 @@ pub record Records {W : Type 0} (work : Meaning W) (old new : CoreHeld W) (befor
   pub steps : List (Step W)
   pub follows : Follows work old new steps
   pub told : HearsEach (map (counted_step work) steps) before after
+
+-- the tape in the box, if there is one
+abbrev pub tape_in : {A : Type 0} → Option (Box Taped A) → Option Taped
+tape_in None = None
+tape_in (Some b) = Some b.value
+
+-- the same of a tape that may be there: if there is none, there is none after the steps
+abbrev pub Recorded : {W : Type 0} → Meaning W → CoreHeld W → CoreHeld W → Option Taped → Option Taped → Type 0
+Recorded work old new None after = after ≡ None
+Recorded work old new (Some before) after = (tape : Taped) × (after ≡ Some tape) × Records work old new before tape
+
+-- The tape, if there is one, lost a step that it cannot tell: it has the same steps, and is not whole any more
+abbrev pub Loses : Option Taped → Option Taped → Type 0
+Loses None after = after ≡ None
+Loses (Some before) after = (tape : Taped) × (after ≡ Some tape) × (tape.steps ≡ before.steps) × (tape.whole ≡ false)
 
 -- both cores show the same: the clock, and of each server its budget, deadline, overrun and charges, how many jobs it
 -- accepted and finished, and whether it is closed

@@ -1,11 +1,11 @@
 -- What is read of the bytes that were written.
-use Rattle.std.proofs.Common.{◌≡◌, ℕ, ◌+◌, ◌-◌, ◌≤◌, List, [], ◌∷◌, ◌++◌, length, take, refl, sym, ap, ◌∙◌, append_assoc, arith}
+use Rattle.std.proofs.Common.{◌≡◌, true, false, ℕ, ◌+◌, ◌-◌, ◌≤◌, List, [], ◌∷◌, ◌++◌, length, take, drop, refl, sym, ap, ap₂, ◌∙◌, append_assoc, arith}
 use Rattle.std.specs.Prelude.{All}
 use Rattle.std.specs.List.{AllByRecursion}
 use Rattle.std.proofs.lemmas.List.Elements.{recursion_from_All}
 use Rattle.std.proofs.Math.ListN.{replicate}
 use Rattle.std.proofs.lemmas.Bool.{le-leb, lt-leb}
-use Rattle.std.proofs.lemmas.List.{length-append, length-replicate, append-nil, take_at}
+use Rattle.std.proofs.lemmas.List.{length-append, length-replicate, append-nil, take_at, drop_at, length-drop}
 use Rattle.cbs_steps.specs.declared.step.Step.{Step}
 use Rattle.cbs_steps.specs.declared.step.Step.TheVariants as step
 use Rattle.cbs_units.specs.declared.count.CountJob.{CountJob}
@@ -14,7 +14,7 @@ use Rattle.cbs_tape.specs.declared.entry.Ending.{Ending}
 use Rattle.cbs_tape.specs.declared.entry.Ending.TheVariants.{Marked, Cut}
 use Rattle.cbs_tape.specs.Spelling.{entry, entries, spelling, HasSpelling}
 use Rattle.cbs_tape.specs.Reading.{Told, told, kept, ending_at}
-use Rattle.cbs_tape.specs.Tapes.{steps_of, all_steps, steps_in, AreEntries, Tells}
+use Rattle.cbs_tape.specs.Tapes.{Taped, steps_of, all_steps, steps_in, AreEntries, Tells, HandsOut, Joins, EndsPieces}
 use Rattle.cbs_tape.proofs.Cuts.{told_cut}
 
 -- the mark stands after the entries
@@ -95,6 +95,48 @@ tells_one bytes more e are has is =
       steps = ap all_steps again ∙ all_steps-push (told bytes).entries e;
     }
 
+-- the entries of two pieces
+entries-append : (es fs : List Entry) → entries (es ++ fs) ≡ entries es ++ entries fs
+entries-append [] fs = refl
+entries-append (e ∷ es) fs = rw (entries-append es fs) (sym (append_assoc (entry e) (entries es) (entries fs)))
+
+all_steps-append : (es fs : List Entry) → all_steps (es ++ fs) ≡ all_steps es ++ all_steps fs
+all_steps-append [] fs = refl
+all_steps-append (e ∷ es) fs = rw (all_steps-append es fs) (sym (append_assoc (steps_of e) (all_steps es) (all_steps fs)))
+
+each-append : (es fs : List Entry) → AllByRecursion HasSpelling es → AllByRecursion HasSpelling fs → AllByRecursion HasSpelling (es ++ fs)
+each-append [] fs p q = q
+each-append (e ∷ es) fs p q = (p.0, each-append es fs p.1 q)
+
+-- the bytes of one piece after those of another
+pub joins : (a b : List ℕ) → Joins a b
+joins a b p q =
+    let es : List Entry = (told a).entries ++ (told b).entries in
+    let each : AllByRecursion HasSpelling es = each-append (told a).entries (told b).entries p.each q.each in
+    let same : a ++ b ≡ entries es = ap₂ ◌++◌ (sym p.spelled) (sym q.spelled) ∙ sym (entries-append (told a).entries (told b).entries) in
+    let again : (told (a ++ b)).entries ≡ es = ap (λ (bytes : List ℕ). (told bytes).entries) same ∙ ap (λ (t : Told). t.entries) (cut_again es each) in
+    record {
+      are = record { spelled = ap entries again ∙ sym same; each = rw again each };
+      steps = ap all_steps again ∙ all_steps-append (told a).entries (told b).entries;
+    }
+
+-- the bytes of a tape, before what a buffer had after them
+pub hands_out : (n : ℕ) (old new : Taped) (bytes before after : List ℕ) → AreEntries bytes → steps_in bytes ≡ old.steps → n ≡ length bytes → n ≤ length before
+    → after ≡ bytes ++ drop n before → new.steps ≡ [] → new.whole ≡ old.whole → new.room ≡ new.size → old.size ≤ new.size → HandsOut n old new before after
+hands_out n old new bytes before after are steps count fits is none whole room size =
+    let front : take n after ≡ bytes = ap (take n) is ∙ take_at bytes (drop n before) n (sym count) in
+    record {
+      are = rw front are;
+      steps = rw front steps;
+      others = ap (drop n) is ∙ drop_at bytes (drop n before) n (sym count);
+      within = omega (arith, ap length is, length-append bytes (drop n before), count);
+      same = omega (arith, ap length is, length-append bytes (drop n before), length-drop n before, count, fits);
+      none = none;
+      whole = whole;
+      room = room;
+      size = size;
+    }
+
 -- no units in a row
 pub tells_none : (bytes : List ℕ) (n : ℕ) → n ≡ 0 → AreEntries bytes → Tells (replicate n step.Run) bytes bytes
 tells_none bytes n none are = record { are = are; steps = rw none (sym (append-nil (steps_in bytes))) }
@@ -124,3 +166,22 @@ ends_cut bytes are = ap (λ (b : List ℕ). (told b).ending) (sym are.spelled) �
 -- a row is no longer than all steps
 pub row_length : (xs : List (Step CountJob)) (n : ℕ) → n ≤ length (xs ++ replicate n step.Run)
 row_length xs n = omega (arith, length-append xs (replicate n step.Run), length-replicate {A = Step CountJob} n step.Run)
+
+-- a whole tape ends pieces that were handed out
+pub pieces_marked : (old bytes all : List ℕ) (xs : List (Step CountJob)) (tape : Taped) → Tells xs old bytes → all ≡ bytes ++ 4 ∷ []
+    → tape.steps ≡ steps_in old ++ xs → tape.whole ≡ true → EndsPieces all tape
+pieces_marked old bytes all xs tape tells is steps whole before are =
+    let both : before ++ all ≡ (before ++ bytes) ++ 4 ∷ [] = ap (λ (b : List ℕ). before ++ b) is ∙ sym (append_assoc before bytes (4 ∷ [])) in
+    let j = joins before bytes are tells.are in (
+      marked_steps before (before ++ bytes) (before ++ all) (steps_in bytes) j both
+          ∙ ap (λ (ys : List (Step CountJob)). steps_in before ++ ys) (tells.steps ∙ sym steps),
+      rw whole (ends_marked (before ++ bytes) (before ++ all) j.are both),
+    )
+
+-- so does one that lost a step, without the mark
+pub pieces_cut : (bytes : List ℕ) (tape : Taped) → AreEntries bytes → tape.steps ≡ steps_in bytes → tape.whole ≡ false → EndsPieces bytes tape
+pieces_cut bytes tape all steps whole before are =
+    let j = joins before bytes are all in (
+      j.steps ∙ ap (λ (ys : List (Step CountJob)). steps_in before ++ ys) (sym steps),
+      rw whole (ends_cut (before ++ bytes) j.are),
+    )

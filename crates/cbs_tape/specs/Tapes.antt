@@ -1,5 +1,5 @@
 -- A tape, as the steps that it has.
-use Rattle.std.specs.Prelude.{◌≡◌, ℕ, ◌+◌, ◌≤◌, leb, Bool, true, false, ◌&&◌, if◌then◌else◌, List, [], ◌∷◌, ◌++◌}
+use Rattle.std.specs.Prelude.{◌≡◌, ℕ, ◌+◌, ◌≤◌, leb, Bool, true, false, ◌&&◌, if◌then◌else◌, List, [], ◌∷◌, ◌++◌, length, take, drop}
 use Rattle.std.specs.List.{AllByRecursion}
 use Rattle.std.proofs.Math.ListN.{replicate}
 use Rattle.cbs_steps.specs.declared.step.Step.{Step}
@@ -39,18 +39,20 @@ pub record Tells (xs : List (Step CountJob)) (old new : List ℕ) : Type 0 where
   pub are : AreEntries new
   pub steps : steps_in new ≡ steps_in old ++ xs
 
--- a tape that is being written: the steps that it has, whether it has each step that it was told, and how many bytes
--- are free
+-- a tape that is being written: the steps that it has, whether it has each step that it was told, how many bytes are
+-- free, and how many its memory has
 pub record Taped : Type 0 where
   pub steps : List (Step CountJob)
   pub whole : Bool
   pub room : ℕ
+  pub size : ℕ
 
 -- The tape was told the steps xs. If it is whole after that, it was whole before, and has them after the others. Else it
--- has the same steps as before
+-- has the same steps as before. Its memory is no smaller
 pub record HearsAll (xs : List (Step CountJob)) (old new : Taped) : Type 0 where
   pub told : new.whole ≡ true → (old.whole ≡ true) × (new.steps ≡ old.steps ++ xs)
   pub lost : new.whole ≡ false → new.steps ≡ old.steps
+  pub size : old.size ≤ new.size
 
 -- the same of one step
 abbrev pub Hears : Step CountJob → Taped → Taped → Type 0
@@ -66,6 +68,11 @@ pub record Keeps (named : Bool) (old new : Taped) : Type 0 where
 abbrev pub ending_of : Bool → Ending
 ending_of whole = if whole then Marked else Cut
 
+-- after pieces that were handed out before, these bytes tell the steps of the tape, and how it ends
+abbrev pub EndsPieces : List ℕ → Taped → Type 0
+EndsPieces bytes tape = (before : List ℕ) → AreEntries before
+    → (steps_in (before ++ bytes) ≡ steps_in before ++ tape.steps) × ((told (before ++ bytes)).ending ≡ ending_of tape.whole)
+
 -- the tape was told the steps xs, one after another
 abbrev pub HearsEach : List (Step CountJob) → Taped → Taped → Type 0
 HearsEach [] old new = old ≡ new
@@ -77,3 +84,20 @@ pub record AddsFirst (xs : List (Step CountJob)) (old new : Taped) : Type 0 wher
   pub gone : List (Step CountJob)
   pub all : xs ≡ kept ++ gone
   pub steps : new.steps ≡ old.steps ++ kept
+
+-- The first n bytes of a buffer are those of entries, and tell the steps of the old tape; the other bytes are as before.
+-- The new tape has no step, is whole if the old one was, and all its bytes are free
+pub record HandsOut (n : ℕ) (old new : Taped) (before after : List ℕ) : Type 0 where
+  pub are : AreEntries (take n after)
+  pub steps : steps_in (take n after) ≡ old.steps
+  pub others : drop n after ≡ drop n before
+  pub within : n ≤ length after
+  pub same : length after ≡ length before
+  pub none : new.steps ≡ []
+  pub whole : new.whole ≡ old.whole
+  pub room : new.room ≡ new.size
+  pub size : old.size ≤ new.size
+
+-- The bytes of one piece after those of another tell the steps of both, in order
+abbrev pub Joins : List ℕ → List ℕ → Type 0
+Joins a b = AreEntries a → AreEntries b → Tells (steps_in b) a (a ++ b)

@@ -11,5 +11,5 @@ mod writing;
 pub use entry::{Ending, Entry};
 pub use reading::{TapeRead, read};
 pub use tape::Tape;
-pub use theorem::all_fronts;
+pub use theorem::{all_fronts, all_pieces};
 pub use writing::write;

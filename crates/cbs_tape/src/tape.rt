@@ -1,17 +1,18 @@
 //! A tape that is told each step.
 
-ghost use Rattle.std.specs.Prelude.{◌≡◌, ◌+◌, ◌-◌, ◌<◌, ◌≤◌, ◌^◌, ltb, [], true, false, length, vec_len, vec_capacity, IfOk, MatchOption};
+ghost use Rattle.std.specs.Prelude.{◌≡◌, ◌+◌, ◌-◌, ◌++◌, drop, ◌<◌, ◌≤◌, ◌^◌, ltb, [], true, false, length, vec_len, vec_capacity, ◌↔◌, IfOk, IfSome, IfNone, IsNone, MatchOption};
 ghost use Rattle.std.proofs.Math.ListN.{replicate};
 ghost use Rattle.cbs_steps.specs.declared.step.Step.TheVariants as step;
 ghost use Rattle.cbs_tape.specs.Spelling.{HasSpelling};
 ghost use Rattle.cbs_tape.specs.Reading.{told};
-ghost use Rattle.cbs_tape.specs.Tapes.{steps_of, steps_in, ending_of, AreEntries, Tells, HearsAll, Hears, Keeps};
+ghost use Rattle.cbs_tape.specs.Tapes.{steps_of, steps_in, ending_of, AreEntries, Tells, HearsAll, Hears, Keeps, HandsOut, EndsPieces};
 
 use crate::entry::Entry;
 use crate::marks::{END, SERVERS};
 use crate::writing::{LONGEST, put_entry};
 use std::alloc::{AllocError, Allocator, Global};
 use std::marker::Model;
+use std::mem;
 
 /// How many bytes a step may need: a row of units before it, its entry, a row after it, and the mark of the end.
 const RESERVE: usize = 3 * LONGEST + 1;
@@ -41,6 +42,7 @@ impl<A: Allocator> Model for Tape<A> {
       steps = steps_in t.bytes.items ++ (if t.whole then replicate t.units step.Run else []);
       whole = t.whole;
       room = vec_capacity t.bytes - vec_len t.bytes;
+      size = vec_capacity t.bytes;
     } };
 
     ghost invariant = { λ t. AreEntries t.bytes.items × (t.whole ≡ true → vec_len t.bytes + 11 ≤ vec_capacity t.bytes) };
@@ -50,7 +52,12 @@ impl<A: Allocator> Tape<A> {
     /// Returns a whole tape with no step, in a memory of this many bytes and 31 more. The only error is out of memory.
     #[tactic(auto, using(crate::proofs::Written::none_are, crate::proofs::Written::no_steps))]
     pub fn new(alloc: A, bytes: u32) -> Result<Self, AllocError>
-        ensures { IfOk result (λ t. t ≡ record { steps = []; whole = true; room = bytes + 31 }) }
+        ensures { IfOk result (λ t. t ≡ record {
+          steps = [];
+          whole = true;
+          room = bytes + 31;
+          size = bytes + 31;
+        }) }
     {
         Ok(Tape {
             bytes: Vec::with_capacity(alloc, bytes as usize + RESERVE)?,
@@ -79,7 +86,7 @@ impl<A: Allocator> Tape<A> {
     {
         match self.units.checked_add(1) {
             Some(units) => self.units = units,
-            None => self.give_up(),
+            None => self.lose(),
         }
     }
 
@@ -92,7 +99,7 @@ impl<A: Allocator> Tape<A> {
     {
         match server_of(server) {
             Some(server) => self.put(Entry::Accepted { server, units }),
-            None => self.give_up(),
+            None => self.lose(),
         }
     }
 
@@ -115,7 +122,7 @@ impl<A: Allocator> Tape<A> {
     {
         match server_of(server) {
             Some(server) => self.put(Entry::Charged { server, ticks }),
-            None => self.give_up(),
+            None => self.lose(),
         }
     }
 
@@ -128,8 +135,39 @@ impl<A: Allocator> Tape<A> {
     {
         match server_of(server) {
             Some(server) => self.put(Entry::Closed(server)),
-            None => self.give_up(),
+            None => self.lose(),
         }
+    }
+
+    /// Returns how many bytes the memory of the tape has.
+    pub fn size(&self) -> usize
+        ensures { result ≡ self.now.size }
+    {
+        self.bytes.capacity()
+    }
+
+    /// Hands out what the tape has: puts its bytes at the start of `out`, and returns how many they are. The tape then
+    /// has no step, is whole if it was, and goes on with all its memory. So it can be told steps for ever.
+    ///
+    /// Returns `None`, and changes nothing, exactly if `out` is shorter than the memory of the tape
+    /// ([`size`](Tape::size)).
+    ///
+    /// The bytes have no mark of the end. What the calls hand out, one after another, tells the steps in order, and
+    /// [`end`](Tape::end) returns what comes after it.
+    #[tactic(auto, using(crate::proofs::Written::none_are, crate::proofs::Written::no_steps))]
+    pub fn take(&mut self, out: &mut [u8]) -> Option<usize>
+        ensures taken { IfSome result (λ n. HandsOut n self.old self.new out.old out.new) }
+        ensures none { IsNone result ↔ (length out.old < self.old.size) }
+        ensures same { IfNone result ((self.new ≡ self.old) × (out.new ≡ out.old)) }
+    {
+        if out.len() < self.bytes.capacity() {
+            return None;
+        }
+        if !self.whole {
+            return Some(hand_out(&mut self.bytes, out));
+        }
+        put_units(&mut self.bytes, mem::replace(&mut self.units, 0));
+        Some(hand_out(&mut self.bytes, out))
     }
 
     /// Ends the tape, and returns its bytes. Its steps are what is read of them. A whole tape is ended by the mark of the
@@ -138,6 +176,7 @@ impl<A: Allocator> Tape<A> {
     pub fn end(self) -> Vec<u8, A>
         ensures steps { steps_in result.items ≡ self.steps }
         ensures ending { (told result.items).ending ≡ ending_of self.whole }
+        ensures pieces { EndsPieces result.items self }
     {
         let Tape {
             mut bytes,
@@ -160,7 +199,7 @@ impl<A: Allocator> Tape<A> {
         ensures kept { Keeps true self.old self.new }
     {
         if !self.whole || self.bytes.capacity() - self.bytes.len() < RESERVE {
-            self.give_up();
+            self.lose();
             return;
         }
         put_units(&mut self.bytes, self.units);
@@ -168,12 +207,16 @@ impl<A: Allocator> Tape<A> {
         put_after(&mut self.bytes, e);
     }
 
-    /// Puts the units in a row. The tape is whole no more, and has the same steps.
+    /// Loses a step that a tape cannot tell. The tape has the same steps, is not whole, and has no step that it is told
+    /// later.
+    ///
+    /// So a tape never claims to have all of a run in which something else than its steps happened.
     #[inline(never)]
-    fn give_up(&mut self)
+    pub fn lose(&mut self)
         ensures steps { self.new.steps ≡ self.old.steps }
         ensures whole { self.new.whole ≡ false }
         ensures room { self.old.room ≤ self.new.room + 10 }
+        ensures size { self.old.size ≤ self.new.size }
     {
         if self.whole {
             put_units(&mut self.bytes, self.units);
@@ -192,6 +235,23 @@ fn server_of(server: u16) -> Option<u8>
     } else {
         None
     }
+}
+
+/// Moves all bytes to the start of `out`, which has places for them, and returns how many they are.
+fn hand_out<A: Allocator>(bytes: &mut Vec<u8, A>, out: &mut [u8]) -> usize
+    requires { vec_len bytes.old ≤ length out.old }
+    ensures count { result ≡ length bytes.old.items }
+    ensures out { out.new ≡ bytes.old.items ++ drop result out.old }
+    ensures within { result ≤ length out.old }
+    ensures none { bytes.new.items ≡ [] }
+    ensures len { vec_len bytes.new ≡ 0 }
+    ensures capacity { vec_capacity bytes.new ≡ vec_capacity bytes.old }
+{
+    let count = bytes.len();
+    let (front, _others) = out.split_at_mut(count);
+    front.copy_from_slice(bytes);
+    bytes.clear();
+    count
 }
 
 /// Puts so many units in a row after other entries.

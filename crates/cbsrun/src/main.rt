@@ -13,8 +13,9 @@ use crate::lost::write_loss;
 use crate::progress::Teller;
 use cbsrun_commands::{
     Action, Asked, BAD_FILE, ByteOutput, DONE, Form, MEMORY_VARIABLE, Progress, RUN_FAULT,
-    RunError, SweepForm, ToWrite, WRONG_WORDS, WordsFault, check_bytes_within, draw_load_within,
-    draw_tasks_within, memory_bound, read_words, report_bytes_within, run_bytes_within,
+    RunError, SweepForm, ToWrite, Verb, WRONG_WORDS, WordsFault, check_bytes_within,
+    draw_load_within, draw_record_within, draw_tasks_within, is_record, memory_bound, read_words,
+    replay_record_within, report_bytes_within, report_record_within, run_bytes_within,
     simulate_bytes_within, simulate_jobs_within, simulate_lines_within, size_bytes_within,
     sweep_bytes_within, write_pieces, write_read_fault, write_run_fault,
 };
@@ -112,11 +113,20 @@ fn answered<R: Threads + Clock + Sync, P: Progress, O: ByteOutput, E: ByteOutput
         Action::DrawLoad(drawing, changes) => draw_load_within(
             alloc, memory, drawing, servers, changes, name, bytes, progress, out, err,
         ),
+        Action::ReportTasks(form) if is_record(bytes) => {
+            report_record_within(alloc, memory, form, name, bytes, out, err)
+        }
         Action::ReportTasks(form) => report_bytes_within(
             alloc, memory, form, name, bytes, out, err,
         ),
+        Action::DrawTasks(drawing) if is_record(bytes) => {
+            draw_record_within(alloc, memory, drawing, servers, name, bytes, out, err)
+        }
         Action::DrawTasks(drawing) => {
             draw_tasks_within(alloc, memory, drawing, servers, name, bytes, out, err)
+        }
+        Action::Run(Verb::Replay) if is_record(bytes) => {
+            replay_record_within(alloc, memory, name, bytes, out, err)
         }
         Action::Run(verb) => run_bytes_within(threads, alloc, memory, verb, bytes, out, err),
     }

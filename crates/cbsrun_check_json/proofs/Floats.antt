@@ -18,7 +18,7 @@ use Rattle.cbsrun_simulate.specs.declared.terms.SourceTerms.{SourceTerms}
 use Rattle.cbsrun_sizing.specs.Budgets.{reserved}
 use Rattle.cbsrun_sizing.specs.Recoveries.{recovery}
 use Rattle.cbsrun_sizing.specs.declared.server_load.ServerLoad.{ServerLoad}
-use Rattle.cbsrun_check_json.specs.Json.{asked_pair, check_data, is_in_time, load_terms, needed_backlog, needs_none, numbered_at, plan_data, plan_terms, proposal_data, reason_of, remedy_data}
+use Rattle.cbsrun_check_json.specs.Json.{asked_pair, check_data, is_in_time, load_terms, needed_backlog, needs_none, named_at, plan_data, plan_terms, proposal_data, reason_of, remedy_data}
 use Rattle.cbsrun_check_json.specs.Json.{server_at, server_data, server_terms, source_data, source_of, with_figures, with_promises}
 
 -- a proposal, or its absence, has no fraction
@@ -82,22 +82,23 @@ check_plain name f budgets loads = rw (
   whole_if_plain f.tick,
 ) refl
 
--- a server that is called by its number has none
-numbered_plain : (name : List ℕ) (mode : Mode) (rate : Rate) (greatest : ℕ) → has_float (object (server_terms name mode rate greatest)) ≡ false
+-- a server of a plan has none
+named_plain : (name : List ℕ) (mode : Mode) (rate : Rate) (greatest : ℕ) → has_float (object (server_terms name mode rate greatest)) ≡ false
 unfolding server_terms
-numbered_plain name mode rate greatest = refl
+named_plain name mode rate greatest = refl
 
 -- nor have such servers
-all_numbered_plain : (modes : List Mode) (plan : Planned) (budgets : List ℕ) (servers : List ℕ)
-    → items_have_float (items_of (map (numbered_at modes plan budgets) servers)) ≡ false
-all_numbered_plain modes plan budgets [] = refl
-all_numbered_plain modes plan budgets (s ∷ servers) = rw (numbered_plain _ _ _ _) (all_numbered_plain modes plan budgets servers)
+all_named_plain : (names : List (List ℕ)) (modes : List Mode) (plan : Planned) (budgets : List ℕ) (servers : List ℕ)
+    → items_have_float (items_of (map (named_at names modes plan budgets) servers)) ≡ false
+all_named_plain names modes plan budgets [] = refl
+all_named_plain names modes plan budgets (s ∷ servers) = rw (named_plain _ _ _ _) (all_named_plain names modes plan budgets servers)
 
 -- so no number of a plan has a fraction
-pub plan_plain : (name : List ℕ) (plan : Planned) (modes : List Mode) (budgets : List ℕ) → has_float (plan_data name plan modes budgets) ≡ false
+pub plan_plain : (name : List ℕ) (names : List (List ℕ)) (modes : List Mode) (plan : Planned) (budgets : List ℕ)
+    → has_float (plan_data name names modes plan budgets) ≡ false
 unfolding plan_data plan_terms
-plan_plain name plan modes budgets = rw (
+plan_plain name names modes plan budgets = rw (
   pair_plain plan.bound.num plan.bound.den,
   pair_plain (reserved plan.rates) (common_multiple plan.rates),
-  all_numbered_plain modes plan budgets (range_with_len 0 (length plan.rates)),
+  all_named_plain names modes plan budgets (range_with_len 0 (length plan.rates)),
 ) refl

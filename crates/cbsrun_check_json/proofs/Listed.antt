@@ -1,6 +1,6 @@
 -- Servers and sources of a load, by their parts.
-use Rattle.std.proofs.Common.{◌≡◌, ℕ, ◌<◌, List, [], ◌++◌, length, get_or, refl, sym, ap, ◌∙◌, Option, Result}
-use Rattle.std.specs.Prelude.{codes, decimal, map}
+use Rattle.std.proofs.Common.{◌≡◌, ℕ, ◌<◌, List, [], length, get_or, refl, sym, ap, ◌∙◌, Option, Result}
+use Rattle.std.specs.Prelude.{map}
 use Rattle.std.proofs.lemmas.List.{get_or-map}
 use Rattle.serde_json.specs.Data.{object}
 use Rattle.cbs_guarantee.specs.Parts.{rate_at}
@@ -13,7 +13,7 @@ use Rattle.cbsrun_loads.specs.Loads.{LoadFile}
 use Rattle.cbsrun_simulate.specs.declared.terms.SourceTerms.{SourceTerms}
 use Rattle.cbsrun_sizing.specs.ServerLoads.{least_within, no_load}
 use Rattle.cbsrun_sizing.specs.declared.server_load.ServerLoad.{ServerLoad}
-use Rattle.cbsrun_check_json.specs.Json.{numbered_at, promised_for, server_at, server_data, server_terms, source_data, source_of}
+use Rattle.cbsrun_check_json.specs.Json.{named_at, promised_for, server_at, server_data, server_terms, source_data, source_of}
 
 -- a name that was read at a place
 pub name_is : {X : Type 0} (f : X → List ℕ) (xs : List X) (i j : ℕ) (x : X) (name : List ℕ) → j < length xs → i ≡ j → x ≡ get_or xs i x → name ≡ f x
@@ -33,8 +33,9 @@ pub source_is : (f : LoadFile) (loads : List ServerLoad) (t : SourceTerms) (name
     → get_or f.names t.server [] ≡ name → promised ≡ promised_for loads t.server → source_of f loads t ≡ source_data name promised t
 source_is f loads t name promised e p = rw (e, p) refl
 
--- a server that is called by its number, by its parts
-pub numbered_is : (modes : List Mode) (plan : Planned) (budgets : List ℕ) (s : ℕ) (name : List ℕ) (mode : Mode) (rate : Rate) (greatest : ℕ)
-    → name ≡ codes "server " ++ decimal s → get_or modes s Soft ≡ mode → rate_at plan.rates s ≡ rate → get_or budgets s 0 ≡ greatest
-    → numbered_at modes plan budgets s ≡ object (server_terms name mode rate greatest)
-numbered_is modes plan budgets s name mode rate greatest n m r g = rw (n, m, r, g) refl
+-- a server of a plan, by its parts
+pub named_is : (names : List (List ℕ)) (modes : List Mode) (plan : Planned) (budgets : List ℕ) (s : ℕ) (name : List ℕ) (mode : Mode) (rate : Rate)
+    (greatest : ℕ)
+    → get_or names s [] ≡ name → get_or modes s Soft ≡ mode → rate_at plan.rates s ≡ rate → get_or budgets s 0 ≡ greatest
+    → named_at names modes plan budgets s ≡ object (server_terms name mode rate greatest)
+named_is names modes plan budgets s name mode rate greatest n m r g = rw (n, m, r, g) refl

@@ -1,5 +1,5 @@
 -- What `check` tells of a file with no fault, as JSON: its keys, and the value of each key.
-use Rattle.std.specs.Prelude.{◌≡◌, ℕ, ◌+◌, ◌*◌, Bool, true, false, leb, List, [], ◌∷◌, ◌++◌, codes, decimal, get_or, length, map, Option, Some, None, Result, Ok, Err, IfSome}
+use Rattle.std.specs.Prelude.{◌≡◌, ℕ, ◌+◌, ◌*◌, Bool, true, false, leb, List, [], ◌∷◌, ◌++◌, codes, get_or, length, map, Option, Some, None, Result, Ok, Err, IfSome}
 use Rattle.std.specs.List.{list_all, range_with_len}
 use Rattle.std.specs.Result.{result_ok}
 use Rattle.serde_json.specs.Data.{Data, null, boolean, string, array, object, Members, no_members}
@@ -193,19 +193,18 @@ pub record IsCheckJson (name : List ℕ) (f : LoadFile) (text : List ℕ) : Type
   pub made_up : IfSome (recovery f) (IsMadeUpWithin f)
   pub text_is : text ≡ compact_text (check_data name f budgets loads) ++ codes "\n"
 
--- server s of a plan, which is called by its number
-abbrev pub numbered_at : List Mode → Planned → List ℕ → ℕ → Data
-numbered_at modes plan budgets s =
-    object (server_terms (codes "server " ++ decimal s) (get_or modes s Soft) (rate_at plan.rates s) (get_or budgets s 0))
+-- server s of a plan, whose servers have these names
+abbrev pub named_at : List (List ℕ) → List Mode → Planned → List ℕ → ℕ → Data
+named_at names modes plan budgets s = object (server_terms (get_or names s []) (get_or modes s Soft) (rate_at plan.rates s) (get_or budgets s 0))
 
--- the object of a plan in a file of this name, by the greatest budgets of its servers
-unfoldable pub plan_data : List ℕ → Planned → List Mode → List ℕ → Data
-plan_data name plan modes budgets = object (with_members (
-    (codes "servers", array (items_of (map (numbered_at modes plan budgets) (range_with_len 0 (length plan.rates)))))
+-- the object of a plan in a file of this name, by the names and the greatest budgets of its servers
+unfoldable pub plan_data : List ℕ → List (List ℕ) → List Mode → Planned → List ℕ → Data
+plan_data name names modes plan budgets = object (with_members (
+    (codes "servers", array (items_of (map (named_at names modes plan budgets) (range_with_len 0 (length plan.rates)))))
     ∷ []) (plan_terms name plan))
 
 -- the object of a plan in a file of this name, on one line, with the greatest budget of each server
-pub record IsPlanJson (name : List ℕ) (plan : Planned) (modes : List Mode) (text : List ℕ) : Type 0 where
+pub record IsPlanJson (name : List ℕ) (names : List (List ℕ)) (modes : List Mode) (plan : Planned) (text : List ℕ) : Type 0 where
   pub budgets : List ℕ
   pub greatest : AreGreatest plan (length plan.rates) budgets
-  pub text_is : text ≡ compact_text (plan_data name plan modes budgets) ++ codes "\n"
+  pub text_is : text ≡ compact_text (plan_data name names modes plan budgets) ++ codes "\n"

@@ -103,12 +103,12 @@ numbered n = map (λ s. codes "server " ++ decimal s) (range_with_len 0 n)
 abbrev pub IsSplit : Planned → Type 0
 IsSplit plan = plan.bound.den * reserved plan.rates + left_over plan ≡ plan.bound.num * common_multiple plan.rates
 
--- the text about a plan, with the greatest budget of each server
-pub record IsPlanText (plan : Planned) (modes : List Mode) (text : List ℕ) : Type 0 where
+-- the text about servers with these names, with the greatest budget of each
+pub record IsPlanText (tick : Option ℕ) (names : List (List ℕ)) (modes : List Mode) (plan : Planned) (text : List ℕ) : Type 0 where
   pub budgets : List ℕ
   pub greatest : AreGreatest plan (length plan.rates) budgets
   pub split : IsSplit plan
-  pub text_is : text ≡ plan_text None (numbered (length plan.rates)) modes plan budgets
+  pub text_is : text ≡ plan_text tick names modes plan budgets
 
 -- the text about a load, with the greatest budget of each server, the demand of its sources, and what is promised for
 -- them. No server is ever later than the text says, and what one unit overruns is made up as soon as it says

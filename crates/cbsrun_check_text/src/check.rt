@@ -105,8 +105,9 @@ fn append_plan(
     append_periods(text, tick, plan.bandwidth().of)
 }
 
-/// Returns names for this many servers, which have no names of their own.
-fn numbered(alloc: Global, servers: u16) -> Result<Vec<String>, AllocError>
+/// Returns names for this many servers, which have no names of their own: `server 0`, `server 1` and so on. The only
+/// error is out of memory.
+pub fn numbered(alloc: Global, servers: u16) -> Result<Vec<String>, AllocError>
     ensures names { IfOk result (λ names. map string_bytes names.items ≡ numbered servers) }
     ensures count { IfOk result (λ names. length names.items ≡ servers) }
 {
@@ -119,19 +120,27 @@ fn numbered(alloc: Global, servers: u16) -> Result<Vec<String>, AllocError>
     Ok(names)
 }
 
-/// Returns the text about a task file's servers. The first line says that they fit, what share of the time is reserved,
+/// Returns the text about servers with these names. The first line says that they fit, what share of the time is reserved,
 /// and what share is left under the bound. The table has each server with the greatest budget that it could have, if
-/// all others stay as they are. The last line says after how many ticks all periods begin together again.
+/// all others stay as they are. The last line says after how many ticks all periods begin together again. Times are in
+/// milliseconds, if the nanoseconds of a tick are known.
 ///
-/// `modes` has the mode of each server of the plan. The only error is out of memory.
-pub fn check_plan(alloc: Global, plan: &Plan, modes: &Modes) -> Result<String, AllocError>
-    requires { length modes.now ≡ length plan.now.rates }
-    ensures { IfOk result (λ text. IsPlanText plan.now modes.now (string_bytes text)) }
+/// `names` and `modes` have the name and the mode of each server of the plan. The only error is out of memory.
+pub fn check_plan(
+    alloc: Global,
+    tick: Option<u64>,
+    names: &[String],
+    modes: &Modes,
+    plan: &Plan,
+) -> Result<String, AllocError>
+    requires named { length names.now ≡ length plan.now.rates }
+    requires moded { length modes.now ≡ length plan.now.rates }
+    ensures { IfOk result (λ text. IsPlanText tick (map string_bytes names.now) modes.now plan.now
+        (string_bytes text)) }
 {
     let budgets = greatest_budgets(alloc, plan)?;
-    let names = numbered(alloc, plan.len() as u16)?;
     let mut text = String::new(alloc);
-    append_plan(alloc, &mut text, None, &names, modes, plan, &budgets)?;
+    append_plan(alloc, &mut text, tick, names, modes, plan, &budgets)?;
     Ok(text)
 }
 

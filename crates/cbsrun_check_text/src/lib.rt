@@ -9,6 +9,6 @@ mod notes;
 mod servers;
 mod sources;
 
-pub use check::{check_load, check_plan};
+pub use check::{check_load, check_plan, numbered};
 pub use fractions::{append_fraction, append_percent};
 pub use notes::append_why;

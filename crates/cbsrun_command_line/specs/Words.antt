@@ -63,11 +63,13 @@ checking = with_flag (with_option (on_files (codes "check")) (codes "as")) (code
 abbrev pub sizing : App
 sizing = with_flag (on_file (codes "size")) (codes "all")
 
+-- a verb that also takes what changes a load: its seed, its end, and the seeds of many runs
+abbrev pub with_changes : App → App
+with_changes verb = with_option (with_option (with_option verb (codes "seed")) (codes "until")) (codes "seeds")
+
 -- the verb that simulates loads
 abbrev pub simulating : App
-simulating =
-    let seeded = with_option (in_a_form (on_files (codes "simulate"))) (codes "seed") in
-    with_flag (with_option (with_option seeded (codes "until")) (codes "seeds")) (codes "strict")
+simulating = with_flag (with_changes (in_a_form (on_files (codes "simulate")))) (codes "strict")
 
 -- the verb that replays a task file
 abbrev pub replaying : App

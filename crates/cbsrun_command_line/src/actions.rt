@@ -11,7 +11,7 @@ pub const MOST_SEED: u64 = 9_223_372_036_854_775_807;
 pub const LAST_END: u64 = 1_000_000_000_000;
 
 /// What `replay` or `serve` does with a task file.
-#[derive(Clone, Copy, Debug, PartialEq, Eq)]
+#[derive(Clone, Copy, PartialEq, Eq)]
 pub enum Verb {
     /// A replay: the steps of the file are run, and a line is written for each.
     Replay,
@@ -21,7 +21,7 @@ pub enum Verb {
 }
 
 /// The form in which a report, or what `check` tells, is written.
-#[derive(Clone, Copy, Debug, PartialEq, Eq)]
+#[derive(Clone, Copy, PartialEq, Eq)]
 pub enum Form {
     /// Text, for people.
     Report,
@@ -30,7 +30,7 @@ pub enum Form {
 }
 
 /// The form in which a run is drawn.
-#[derive(Clone, Copy, Debug, PartialEq, Eq)]
+#[derive(Clone, Copy, PartialEq, Eq)]
 pub enum Drawing {
     /// A picture, in SVG.
     Svg,
@@ -41,7 +41,7 @@ pub enum Drawing {
 }
 
 /// What takes the place of what a load itself says. Without a number, the load's own one stays.
-#[derive(Clone, Copy, Debug, PartialEq, Eq)]
+#[derive(Clone, Copy, PartialEq, Eq)]
 pub struct Changes {
     /// The seed of the numbers that are drawn: 0 to [`MOST_SEED`].
     pub seed: Option<u64>,
@@ -56,7 +56,7 @@ pub struct Changes {
 pub const MOST_RUNS: u64 = 1_000_000;
 
 /// The seeds of many runs of a load, from the first to the last: at most [`MOST_RUNS`].
-#[derive(Clone, Copy, Debug, PartialEq, Eq)]
+#[derive(Clone, Copy, PartialEq, Eq)]
 pub struct Seeds {
     /// The first seed.
     pub first: u64,
@@ -67,7 +67,7 @@ pub struct Seeds {
 }
 
 /// The form in which it is written what many runs tell.
-#[derive(Clone, Copy, Debug, PartialEq, Eq)]
+#[derive(Clone, Copy, PartialEq, Eq)]
 pub enum SweepForm {
     /// Text, for people.
     Report,
@@ -78,7 +78,7 @@ pub enum SweepForm {
 }
 
 /// Many runs of a load that a command line asks for.
-#[derive(Clone, Copy, Debug, PartialEq, Eq)]
+#[derive(Clone, Copy, PartialEq, Eq)]
 pub struct LoadSweep {
     /// The form of what is told.
     pub form: SweepForm,
@@ -91,7 +91,7 @@ pub struct LoadSweep {
 }
 
 /// The report of a load that a command line asks for.
-#[derive(Clone, Copy, Debug, PartialEq, Eq)]
+#[derive(Clone, Copy, PartialEq, Eq)]
 pub struct LoadReport {
     /// The form of the report.
     pub form: Form,
@@ -102,7 +102,7 @@ pub struct LoadReport {
 }
 
 /// The action that a command line asks for.
-#[derive(Clone, Copy, Debug, PartialEq, Eq)]
+#[derive(Clone, Copy, PartialEq, Eq)]
 pub enum Action {
     /// The text on what the servers of a file have and could have, and which jobs of a load are always in time.
     Check {

@@ -365,10 +365,9 @@ fn append_no_number(
     greatest: u64,
 ) -> Result<(), AllocError> {
     let said = said.unwrap_or("");
-    writeln!(text, "error: invalid value '{said}' for '{option}'")?;
     writeln!(
         text,
-        "  [a whole number from {least} to {greatest} is wanted]"
+        "error: invalid value '{said}' for '{option}'\n  [a whole number from {least} to {greatest} is wanted]"
     )
 }
 
@@ -377,9 +376,8 @@ fn append_no_tick(text: &mut String, option: &str, said: Option<&str>) -> Result
     let said = said.unwrap_or("");
     writeln!(
         text,
-        "error: invalid value '{said}' for '--{option} <TICK>'"
-    )?;
-    writeln!(text, "  [a whole number below 2^64 is wanted]")
+        "error: invalid value '{said}' for '--{option} <TICK>'\n  [a whole number below 2^64 is wanted]"
+    )
 }
 
 /// Appends why the two options ask for no ticks that a drawing can show.
@@ -397,17 +395,14 @@ fn append_no_ticks(
     };
     match window_in(drawing, first, end) {
         Ok(_) => Ok(()),
-        Err(WindowError::Empty) => {
-            writeln!(text, "error: there is no tick from {first} up to {end}")?;
-            writeln!(text, "  [--from has to be before --to]")
-        }
-        Err(WindowError::TooLong) => {
-            writeln!(text, "error: too many ticks from {first} up to {end}")?;
-            writeln!(
-                text,
-                "  [at most {MOST_TICKS} are shown at a time; '--as trace' has no such limit]"
-            )
-        }
+        Err(WindowError::Empty) => writeln!(
+            text,
+            "error: there is no tick from {first} up to {end}\n  [--from has to be before --to]"
+        ),
+        Err(WindowError::TooLong) => writeln!(
+            text,
+            "error: too many ticks from {first} up to {end}\n  [at most {MOST_TICKS} are shown at a time; '--as trace' has no such limit]"
+        ),
     }
 }
 
@@ -424,8 +419,10 @@ fn forms_of(verb: &str) -> &'static str {
 fn append_no_form(text: &mut String, verb: &str, form: Option<&str>) -> Result<(), AllocError> {
     let form = form.unwrap_or("");
     let forms = forms_of(verb);
-    writeln!(text, "error: invalid value '{form}' for '--as <FORMAT>'")?;
-    writeln!(text, "  [possible values: {forms}]")
+    writeln!(
+        text,
+        "error: invalid value '{form}' for '--as <FORMAT>'\n  [possible values: {forms}]"
+    )
 }
 
 /// Appends why a command has no action with these options, whose numbers for a load are in their ranges.
@@ -472,13 +469,9 @@ fn append_wrong_sweep(
     options: Options<'_>,
 ) -> Result<(), AllocError> {
     if seeds_of(seeds).is_none() {
-        writeln!(
-            text,
-            "error: invalid value '{seeds}' for '--seeds <FIRST..LAST>'"
-        )?;
         return writeln!(
             text,
-            "  [two whole numbers from 0 to {MOST_SEED} are wanted, as 1..1000, and at most {MOST_RUNS} seeds]"
+            "error: invalid value '{seeds}' for '--seeds <FIRST..LAST>'\n  [two whole numbers from 0 to {MOST_SEED} are wanted, as 1..1000, and at most {MOST_RUNS} seeds]"
         );
     }
     if number_of(options.until, 1, LAST_END).is_none() {

@@ -6,7 +6,7 @@ use crate::actions::Drawing;
 use cbsrun_window::Window;
 
 /// The drawing of a run that a command line asks for.
-#[derive(Clone, Copy, Debug, PartialEq, Eq)]
+#[derive(Clone, Copy, PartialEq, Eq)]
 pub struct RunDrawing {
     /// The form in which the run is drawn.
     pub drawing: Drawing,

@@ -8,13 +8,13 @@ each server with a budget of so many ticks in every period.";
 pub(crate) const VERSION: &str = "0.1.0\nproved by rattle logic dac8208d650f15bf";
 
 pub(crate) const FILES: &str = "\
-FILE is a task file or a load, in TOML; - is standard input. --help has an example
-of each, what is guaranteed, and the exit statuses.";
+FILE is a task file, a load or a record, in TOML; - is standard input. --help has an
+example of each, what is guaranteed, and the exit statuses.";
 
 pub(crate) const GUIDE: &str = "\
-FILE is a task file or a load, in TOML; - is standard input, and ./- a file of that
-name. simulate and size take a load, replay and serve a task file, and check either.
-A load says which jobs come, and how often:
+FILE is a task file, a load or a record, in TOML; - is standard input, and ./- a file
+of that name. simulate and size take a load, serve takes a task file, replay a task
+file or a record, and check any of them. A load says which jobs come, and how often:
 
   load = 1
   bound = [1, 1]                           # the bandwidths add up to at most 1/1
@@ -56,6 +56,26 @@ Saved as FIRST.toml, it is checked and run by
   cbsrun check FIRST.toml
   cbsrun replay FIRST.toml
   cbsrun serve FIRST.toml
+
+A record has the steps of a run. Of a job it says only its number of units:
+
+  record = 1
+  bound = [1, 1]
+  backlog = 4
+  server = [
+    { name = \"control\", mode = \"soft\", budget = 2, period = 5 },
+  ]
+  step = [
+    { op = \"submit\", server = 0, units = 3 },
+    { op = \"run\", times = 2 },                            # twice
+    { op = \"charge\", server = 0, ticks = 1 },             # the last unit ran over
+    { op = \"run\" },
+  ]
+
+Saved as RECORD.toml, it is checked, run and drawn by
+  cbsrun check RECORD.toml
+  cbsrun replay RECORD.toml
+  cbsrun replay --as svg RECORD.toml > record.svg
 
 Guaranteed, for soft and throttled servers, whatever the clients ask for:
   - No server takes more than its share: its deadline pays for what it gets, by a
@@ -101,7 +121,7 @@ pub(crate) const SIMULATE: &str =
     "Releases the jobs of a load's sources, runs them, and reports, draws, or writes a line for each step or job";
 
 pub(crate) const REPLAY: &str =
-    "Runs the steps of a task file, and writes a line for each, reports, or draws";
+    "Runs the steps of a task file or of a record, and writes a line for each, reports, or draws";
 
 pub(crate) const SERVE: &str =
     "Gives each server's submits to a client of its own, serves them all, \

@@ -1,11 +1,11 @@
 //! The words of a command line, as `clap` sees them.
 
-ghost use Rattle.std.specs.Prelude.{◌≡◌, ◌≢◌, codes, IfOk, IfErr, false, map, string_bytes};
+ghost use Rattle.std.specs.Prelude.{◌≡◌, ◌≢◌, codes, IfOk, IfErr, IsOkAnd, false, map, string_bytes};
 ghost use Rattle.clap.specs.Words.{app_of, found_of, kind_of, rows_of, subcommand_rows_of};
 ghost use Rattle.clap.specs.declared.builder.command.Command.TheViews.{out-Command};
 ghost use Rattle.cbsrun_command_line.specs.Faults.{number_of, words_fault_number};
 ghost use Rattle.cbsrun_command_line.specs.Options.{said};
-ghost use Rattle.cbsrun_command_line.specs.Words.{command_line, checking, texts_in, said_in, simulating, sizing, replaying, on_file, on_files, in_a_form, with_option, with_options, with_flag, with_verb, bare_program, IsAsked, Names, AreTaken, TellsOf};
+ghost use Rattle.cbsrun_command_line.specs.Words.{command_line, checking, texts_in, said_in, simulating, sizing, replaying, on_file, on_files, in_a_form, with_changes, with_option, with_options, with_flag, with_verb, bare_program, IsAsked, Names, AreTaken, TellsOf};
 ghost use Rattle.cbsrun_command_line.specs.declared.fault.WordsFault.TheVariants.{OutOfMemory};
 
 use crate::actions::Asked;
@@ -125,15 +125,25 @@ fn sizing<'a>(alloc: Global) -> Result<Command<'a>, AllocError>
     with_flag(alloc, verb, "all", ALL)
 }
 
+/// Returns a verb that also takes what changes a load: its seed, its end, and the seeds of many runs.
+fn with_changes<'a>(alloc: Global, verb: Command<'a>) -> Result<Command<'a>, AllocError>
+    requires { (out-Command verb).has_globals ≡ false }
+    ensures app { IfOk result (λ c. app_of c ≡ with_changes (app_of verb.entry)) }
+    ensures local { IfOk result (λ c. (out-Command c).has_globals ≡ false) }
+{
+    let verb = with_option(alloc, verb, "seed", "SEED", SEED)?;
+    let verb = with_option(alloc, verb, "until", "TICK", UNTIL)?;
+    with_option(alloc, verb, "seeds", "FIRST..LAST", SEEDS)
+}
+
 /// Returns the verb that simulates loads.
 fn simulating<'a>(alloc: Global) -> Result<Command<'a>, AllocError>
     ensures app { IfOk result (λ c. app_of c ≡ simulating) }
     ensures local { IfOk result (λ c. (out-Command c).has_globals ≡ false) }
 {
-    let verb = in_a_form(alloc, on_files(alloc, "simulate", SIMULATE)?, REPORTS)?;
-    let verb = with_option(alloc, verb, "seed", "SEED", SEED)?;
-    let verb = with_option(alloc, verb, "until", "TICK", UNTIL)?;
-    let verb = with_option(alloc, verb, "seeds", "FIRST..LAST", SEEDS)?;
+    let verb = on_files(alloc, "simulate", SIMULATE)?;
+    let verb = in_a_form(alloc, verb, REPORTS)?;
+    let verb = with_changes(alloc, verb)?;
     with_flag(alloc, verb, "strict", IN_TIME)
 }
 
@@ -145,12 +155,16 @@ fn replaying<'a>(alloc: Global) -> Result<Command<'a>, AllocError>
     in_a_form(alloc, on_file(alloc, "replay", REPLAY)?, TRACES)
 }
 
-/// Returns the program with one more verb.
-fn with_verb<'a>(program: Command<'a>, verb: Command<'a>) -> Result<Command<'a>, AllocError>
-    requires { (out-Command verb).has_globals ≡ false }
-    ensures { IfOk result (λ c. app_of c ≡ with_verb (app_of program.entry) (app_of verb.entry)) }
+/// Returns the program with one more verb, if that could be made. The only error is out of memory.
+fn with_verb<'a>(
+    program: Command<'a>,
+    verb: Result<Command<'a>, AllocError>,
+) -> Result<Command<'a>, AllocError>
+    requires { IfOk verb (λ v. (out-Command v).has_globals ≡ false) }
+    ensures { IfOk result (λ c. IsOkAnd verb.entry
+        (λ v. app_of c ≡ with_verb (app_of program.entry) (app_of v))) }
 {
-    program.subcommand(verb)
+    program.subcommand(verb?)
 }
 
 /// Returns the program, with no verb yet.
@@ -169,16 +183,11 @@ fn bare_program<'a>(alloc: Global) -> Command<'a>
 fn command_line<'a>(alloc: Global) -> Result<Command<'a>, AllocError>
     ensures { IfOk result (λ c. app_of c ≡ command_line) }
 {
-    let check = checking(alloc)?;
-    let size = sizing(alloc)?;
-    let simulate = simulating(alloc)?;
-    let replay = replaying(alloc)?;
-    let serve = on_file(alloc, "serve", SERVE)?;
-    let program = with_verb(bare_program(alloc), check)?;
-    let program = with_verb(program, size)?;
-    let program = with_verb(program, simulate)?;
-    let program = with_verb(program, replay)?;
-    with_verb(program, serve)
+    let program = with_verb(bare_program(alloc), checking(alloc))?;
+    let program = with_verb(program, sizing(alloc))?;
+    let program = with_verb(program, simulating(alloc))?;
+    let program = with_verb(program, replaying(alloc))?;
+    with_verb(program, on_file(alloc, "serve", SERVE))
 }
 
 /// Returns the text of an error of `clap`, without its tip to pass an option that there is not as a file.

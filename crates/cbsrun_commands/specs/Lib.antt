@@ -3,6 +3,7 @@ pub mod Drawings
 pub mod Environment
 pub mod FaultLines
 pub mod Outputs
+pub mod Records
 pub mod ResultLines
 pub mod Sweeps
 pub mod Verbs

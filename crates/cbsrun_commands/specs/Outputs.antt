@@ -1,5 +1,5 @@
 -- What each command reads, and what it prints.
-use Rattle.std.specs.Prelude.{ℕ, Bool, true, false, if◌then◌else◌, List, [], ◌++◌, length, get_or, unwrap_or, Option, Result, ◌≡◌, Ok, Err}
+use Rattle.std.specs.Prelude.{ℕ, Bool, true, false, if◌then◌else◌, List, [], ◌++◌, length, get_or, unwrap_or, Option, None, Result, ◌≡◌, Ok, Err}
 use Rattle.std.specs.List.{list_all}
 use Rattle.cbsrun_command_line.specs.declared.actions.Changes.{Changes}
 use Rattle.cbs_guarantee.specs.declared.source.NotPromised.{NotPromised}
@@ -9,7 +9,7 @@ use Rattle.cbsrun_sizing.specs.Budgets.{is_within}
 use Rattle.cbsrun_sizing.specs.ServerLoads.{AreServerLoads, no_load}
 use Rattle.cbsrun_sizing.specs.declared.server_load.ServerLoad.{ServerLoad}
 use Rattle.cbsrun_check_json.specs.Json.{IsCheckJson, IsPlanJson}
-use Rattle.cbsrun_check_text.specs.Checks.{IsLoadText, IsPlanText}
+use Rattle.cbsrun_check_text.specs.Checks.{IsLoadText, IsPlanText, numbered}
 use Rattle.cbsrun_csv.specs.Csv.{IsCsv}
 use Rattle.cbsrun_tasks.specs.Spelling.{file}
 use Rattle.cbsrun_loads.specs.Spelling.{is_load, load, load_in}
@@ -18,7 +18,7 @@ use Rattle.cbsrun_toml_tables.specs.Documents.{at, document}
 use Rattle.cbsrun_toml_tables.specs.declared.fault.Place.TheVariants.{Top}
 use Rattle.toml.specs.Data.{Members}
 use Rattle.cbsrun_commands.specs.declared.check.AnyFile.{AnyFile}
-use Rattle.cbsrun_commands.specs.declared.check.AnyFile.TheVariants.{Load, Tasks}
+use Rattle.cbsrun_commands.specs.declared.check.AnyFile.TheVariants.{Load, Tasks, Record}
 use Rattle.cbsrun_toml_tables.specs.Fields.{◌>>=◌, seen}
 use Rattle.cbsrun_toml_tables.specs.declared.fault.FileFault.{FileFault}
 use Rattle.cbsrun_loads.specs.Loads.{LoadFile, with_seed, with_until}
@@ -28,6 +28,8 @@ use Rattle.cbsrun_sized.specs.declared.not_sized.NotSized.{NotSized}
 use Rattle.cbsrun_lines.specs.Traces.{AreLoadLines, WritesSomeLines}
 use Rattle.cbsrun_runs.specs.Loads.{seen_in, run_of, IsKept}
 use Rattle.cbsrun_commands.specs.Commands.{Command, printing_command}
+use Rattle.cbsrun_records.specs.Kinds.{begins_record}
+use Rattle.cbsrun_records.specs.Spelling.{record_of}
 use Rattle.cbsrun_tasks.specs.TaskFiles.{File}
 use Rattle.cbsrun_report_json.specs.Json.{report_json}
 use Rattle.cbsrun_runs.specs.Runs.{Shown, IsReportOf}
@@ -47,28 +49,34 @@ use Rattle.cbsrun_command_line.specs.declared.actions.Drawing.TheVariants.{Svg, 
 abbrev pub checked_load : Members → Result AnyFile FileFault
 checked_load table = seen (λ f. Load f (load_roundings f.tick table)) (load_in table)
 
--- the file that the bytes spell: a load if the top table has the key `load`, else a task file
-unfoldable pub any_file : List ℕ → Result AnyFile FileFault
-any_file bytes = do
+-- the load or the task file that the bytes spell: a load if the top table has the key `load`
+unfoldable pub load_or_tasks : List ℕ → Result AnyFile FileFault
+load_or_tasks bytes = do
   is ← is_load bytes
   if is then at Top (document bytes) >>= checked_load else seen Tasks (file bytes)
+
+-- the file that the bytes spell: a record if they begin as one does
+unfoldable pub any_file : List ℕ → Result AnyFile FileFault
+any_file bytes = if begins_record bytes then seen Record (record_of bytes) else load_or_tasks bytes
 
 -- the text is what `check` prints about a load, with what is told of its times that are no whole number of ticks
 abbrev pub IsLoadCheck : LoadFile → List ℕ → List ℕ → Type 0
 IsLoadCheck f rounded text = (told : List ℕ) × IsLoadText f told × (text ≡ told ++ rounded)
 
--- the text is what `check` prints about the file
+-- the text is what `check` prints about the file. The servers of a task file are called by their numbers
 abbrev pub IsCheckText : AnyFile → List ℕ → Type 0
 IsCheckText (Load f rounded) text = IsLoadCheck f rounded text
-IsCheckText (Tasks f) text = IsPlanText f.plan f.modes text
+IsCheckText (Tasks f) text = IsPlanText None (numbered (length f.plan.rates)) f.modes f.plan text
+IsCheckText (Record f) text = IsPlanText f.tick f.names f.modes f.plan text
 
 -- the text is what `check` prints about the file in this form, and names the file so
 abbrev pub IsCheckIn : Form → List ℕ → AnyFile → List ℕ → Type 0
 IsCheckIn Report name f text = IsCheckText f text
 IsCheckIn Json name (Load f rounded) text = IsCheckJson name f text
-IsCheckIn Json name (Tasks f) text = IsPlanJson name f.plan f.modes text
+IsCheckIn Json name (Tasks f) text = IsPlanJson name (numbered (length f.plan.rates)) f.modes f.plan text
+IsCheckIn Json name (Record f) text = IsPlanJson name f.names f.modes f.plan text
 
--- the command that prints what it finds in a file of either kind
+-- the command that prints what it finds in a file of any kind
 abbrev pub check_command : Form → List ℕ → Command AnyFile
 check_command form name = printing_command any_file (IsCheckIn form name)
 
@@ -86,10 +94,11 @@ abbrev pub AreSourcesPromised : LoadFile → Bool → Type 0
 AreSourcesPromised f answer =
     (loads : List ServerLoad) × AreServerLoads f (length f.plan.rates) loads × (answer ≡ all_promised loads f.sources)
 
--- the same of a file of either kind. A task file has no source
+-- the same of a file of any kind. Only a load has sources
 abbrev pub ArePromised : AnyFile → Bool → Type 0
 ArePromised (Load f rounded) answer = AreSourcesPromised f answer
 ArePromised (Tasks f) answer = answer ≡ true
+ArePromised (Record f) answer = answer ≡ true
 
 -- the load with what takes the place of its own seed and its own end
 abbrev pub changed : Changes → LoadFile → LoadFile

@@ -1,23 +1,27 @@
-//! The command `check`: from the bytes of a load or a task file to a status.
+//! The command `check`: from the bytes of a load, a task file or a record to a status.
 
-ghost use Rattle.std.specs.Prelude.{◌≡◌, IfOk, Ok, get_or, string_bytes};
+ghost use Rattle.std.specs.Prelude.{◌≡◌, IfOk, Ok, get_or, length, map, string_bytes};
 ghost use Rattle.toml.specs.View.{table_view};
 ghost use Rattle.cbsrun_sizing.specs.ServerLoads.{no_load};
+ghost use Rattle.cbsrun_check_text.specs.Checks.{numbered};
 ghost use Rattle.cbsrun_commands.specs.declared.check.AnyFile.{AnyFile};
+ghost use Rattle.cbsrun_commands.specs.declared.check.AnyFile.TheVariants.{Tasks, Record as Recorded};
 ghost use Rattle.cbsrun_toml_tables.specs.Documents.{no_memory};
 ghost use Rattle.cbsrun_toml_tables.specs.Fields.{Gives};
-ghost use Rattle.cbsrun_commands.specs.Outputs.{all_promised, any_file, check_command, checked_load, is_promised, ArePromised, AreSourcesPromised, IsCheckIn, IsCheckText, IsLoadCheck};
+ghost use Rattle.cbsrun_commands.specs.Outputs.{all_promised, any_file, check_command, checked_load, load_or_tasks, is_promised, ArePromised, AreSourcesPromised, IsCheckIn, IsCheckText, IsLoadCheck};
 ghost use Rattle.cbsrun_commands.specs.Commands.{Does, EndsCheck};
 ghost use Rattle.cbsrun_command_line.specs.declared.actions.Form.TheVariants.{Json};
 ghost use Rattle.cbsrun_lines.specs.Writers.{MayWrite};
 
 use crate::ending::{Stopped, print, status_of_check};
+use crate::reading::record_file;
 use cbs_guarantee::NotPromised;
 use cbsrun_check_json::{check_json, check_plan_json};
-use cbsrun_check_text::{check_load, check_plan};
+use cbsrun_check_text::{check_load, check_plan, numbered};
 use cbsrun_command_line::Form;
 use cbsrun_io::ByteOutput;
 use cbsrun_loads::{Load, load_in};
+use cbsrun_records::{Record, is_record};
 use cbsrun_roundings::RoundingsText;
 use cbsrun_simulate::SourceTerms;
 use cbsrun_sizing::{ServerLoad, is_within, server_loads};
@@ -26,13 +30,15 @@ use cbsrun_toml_tables::{FileKind, Place, faulty};
 use std::alloc::{AllocError, Global};
 use toml::Table;
 
-/// A file of either kind.
+/// A file of any kind.
 #[derive(Drop)]
 enum AnyFile {
     /// A load, and what is told of its times that are no whole number of ticks.
     Load(Load, RoundingsText),
     /// A task file.
     Tasks(TaskFile),
+    /// A record.
+    Record(Record),
 }
 
 /// Returns the load that a top table spells, and what is told of its times that are no whole number of ticks; or the first
@@ -47,15 +53,29 @@ fn checked_load(alloc: Global, table: &Table) -> Result<AnyFile, FileFault>
     Ok(AnyFile::Load(load, rounded))
 }
 
+/// Returns the load or the task file that the bytes spell, or its first fault. If it has to be read as one document that
+/// needs more than `memory` bytes of memory, returns out of memory.
+#[tactic(auto, unfolding(crate::specs::Outputs::load_or_tasks))]
+fn load_or_tasks(alloc: Global, memory: u64, bytes: &[u8]) -> Result<AnyFile, FileFault>
+    ensures { Gives no_memory (λ f. f) result (load_or_tasks bytes.now) }
+{
+    match find_within(alloc, memory, bytes).into_result()? {
+        Found::Tasks(file) => Ok(AnyFile::Tasks(file)),
+        Found::Load(table) => checked_load(alloc, &table),
+    }
+}
+
 /// Returns the file that the bytes spell, or its first fault. If it has to be read as one document that needs more than
 /// `memory` bytes of memory, returns out of memory.
 #[tactic(auto, unfolding(crate::specs::Outputs::any_file))]
 fn read_any(alloc: Global, memory: u64, bytes: &[u8]) -> Result<AnyFile, FileFault>
     ensures { Gives no_memory (λ f. f) result (any_file bytes.now) }
 {
-    match find_within(alloc, memory, bytes).into_result()? {
-        Found::Tasks(file) => Ok(AnyFile::Tasks(file)),
-        Found::Load(table) => checked_load(alloc, &table),
+    if is_record(bytes) {
+        let record = record_file(alloc, memory, bytes)?;
+        Ok(AnyFile::Record(record))
+    } else {
+        load_or_tasks(alloc, memory, bytes)
     }
 }
 
@@ -68,14 +88,60 @@ fn load_text(alloc: Global, load: &Load, rounded: &RoundingsText) -> Result<Stri
     Ok(text)
 }
 
+/// Returns names for the servers of a task file, which have no names of their own.
+fn numbers(alloc: Global, file: &TaskFile) -> Result<Vec<String>, AllocError>
+    ensures names { IfOk result (λ names. map string_bytes names.items
+        ≡ numbered (length file.now.plan.rates)) }
+    ensures count { IfOk result (λ names. length names.items ≡ length file.now.plan.rates) }
+    ensures moded { length file.now.modes ≡ length file.now.plan.rates }
+{
+    // Reading the modes gives the proof that each server has one.
+    let _modes = file.modes();
+    numbered(alloc, file.plan().len() as u16)
+}
+
+/// Returns the text that `check` prints about a task file.
+fn tasks_text(alloc: Global, file: &TaskFile) -> Result<String, AllocError>
+    ensures { IfOk result (λ text. IsCheckText (Tasks file.now) (string_bytes text)) }
+{
+    let names = numbers(alloc, file)?;
+    check_plan(alloc, None, &names, file.modes(), file.plan())
+}
+
+/// Returns the text that `check` prints about a record.
+fn record_text(alloc: Global, record: &Record) -> Result<String, AllocError>
+    ensures { IfOk result (λ text. IsCheckText (Recorded record.now) (string_bytes text)) }
+{
+    let names = record.names();
+    check_plan(alloc, record.tick(), names, record.modes(), record.plan())
+}
+
 /// Returns the text that `check` prints about a file.
 fn check_text(alloc: Global, file: &AnyFile) -> Result<String, AllocError>
     ensures { IfOk result (λ text. IsCheckText file.now (string_bytes text)) }
 {
     match file {
         AnyFile::Load(load, rounded) => load_text(alloc, load, rounded),
-        AnyFile::Tasks(file) => check_plan(alloc, file.plan(), file.modes()),
+        AnyFile::Tasks(file) => tasks_text(alloc, file),
+        AnyFile::Record(record) => record_text(alloc, record),
     }
+}
+
+/// Returns what `check` tells of a task file as JSON, which names the file so.
+fn tasks_object(alloc: Global, name: &str, file: &TaskFile) -> Result<String, AllocError>
+    ensures { IfOk result (λ text. IsCheckIn Json name.now (Tasks file.now) (string_bytes text)) }
+{
+    let names = numbers(alloc, file)?;
+    check_plan_json(alloc, name, &names, file.modes(), file.plan())
+}
+
+/// Returns what `check` tells of a record as JSON, which names the file so.
+fn record_object(alloc: Global, name: &str, record: &Record) -> Result<String, AllocError>
+    ensures { IfOk result (λ text. IsCheckIn Json name.now (Recorded record.now)
+        (string_bytes text)) }
+{
+    let names = record.names();
+    check_plan_json(alloc, name, names, record.modes(), record.plan())
 }
 
 /// Returns what `check` tells of a file as JSON, which names the file so.
@@ -84,7 +150,8 @@ fn check_object(alloc: Global, name: &str, file: &AnyFile) -> Result<String, All
 {
     match file {
         AnyFile::Load(load, _) => check_json(alloc, name, load),
-        AnyFile::Tasks(file) => check_plan_json(alloc, name, file.plan(), file.modes()),
+        AnyFile::Tasks(file) => tasks_object(alloc, name, file),
+        AnyFile::Record(record) => record_object(alloc, name, record),
     }
 }
 
@@ -133,13 +200,13 @@ fn sources_are_promised(alloc: Global, load: &Load) -> Result<bool, AllocError>
     Ok(all_promised(&loads, load.sources()))
 }
 
-/// Returns whether the jobs of each source of a file are promised to be in time. A task file has no source.
+/// Returns whether the jobs of each source of a file are promised to be in time. Only a load has sources.
 fn are_promised(alloc: Global, file: &AnyFile) -> Result<bool, AllocError>
     ensures { IfOk result (ArePromised file.now) }
 {
     match file {
         AnyFile::Load(load, _) => sources_are_promised(alloc, load),
-        AnyFile::Tasks(_) => Ok(true),
+        AnyFile::Tasks(_) | AnyFile::Record(_) => Ok(true),
     }
 }
 
@@ -166,8 +233,8 @@ fn check<O: ByteOutput>(
     Ok(promised)
 }
 
-/// Checks the load or the task file that the bytes spell, and prints what it holds, in this form. The bytes are a load if
-/// the top table has the key `load`. JSON and the explanation of a fault name the file `name`. Returns the status.
+/// Checks the file that the bytes spell, and prints what it holds, in this form. The bytes are a record if
+/// [`is_record`] says so, a load if the top table has the key `load`, and else a task file. JSON and the explanation of a fault name the file `name`. Returns the status.
 ///
 /// At status 0 the whole text is on `out`, or a prefix of it if a write found a closed pipe, and nothing on `err`. At
 /// status 3 the file has a fault: the line of the first fault goes to `err`, with an explanation below it, and nothing to

@@ -1,5 +1,5 @@
 //! The commands, from the bytes of a file to a status. A task file is run, to a trace of its steps or the results of
-//! its jobs. A load is simulated. Either can be checked, and drawn as a picture of its run.
+//! its jobs. A record is run again, and a load is simulated. Each can be checked, and drawn as a picture of its run.
 #![tactic(auto)]
 
 mod check;
@@ -12,6 +12,7 @@ mod load_jobs;
 mod load_steps;
 mod pictures;
 mod reading;
+mod records;
 mod report;
 mod result_lines;
 mod run;
@@ -29,6 +30,7 @@ pub use cbsrun_io::{
     write_text,
 };
 pub use cbsrun_lines::{RunError, replay};
+pub use cbsrun_records::is_record;
 pub use cbsrun_runs::{NoProgress, Progress};
 pub use check::check_bytes_within;
 pub use ending::{ANSWER_IS_NO, BAD_FILE, DONE, RUN_FAULT, WRONG_WORDS};
@@ -37,6 +39,7 @@ pub use fault_lines::{write_file_fault, write_read_fault, write_run_fault};
 pub use load_jobs::simulate_jobs_within;
 pub use load_steps::simulate_lines_within;
 pub use pictures::{draw_load_within, draw_tasks_within};
+pub use records::{draw_record_within, replay_record_within, report_record_within};
 pub use report::{report_bytes_within, simulate_bytes_within};
 pub use run::{run_bytes, run_bytes_within};
 pub use serve::serve_file;

@@ -59,7 +59,7 @@ fn print_picture<R: Run, P: Progress, O: ByteOutput>(
 
 /// Makes the steps of a run, which ends at the tick `end`, and prints the drawing of it that is asked for. The drawing names
 /// the file `name`, and has the servers with these names, or all of them if there is no name.
-fn print_drawing<R: Run, P: Progress, O: ByteOutput>(
+pub(crate) fn print_drawing<R: Run, P: Progress, O: ByteOutput>(
     alloc: Global,
     asked: RunDrawing,
     end: u64,

@@ -1,15 +1,17 @@
-//! Files of either kind, read within a bound on memory.
+//! Files of each kind, read within a bound on memory.
 
 ghost use Rattle.cbsrun_tasks.specs.Spelling.{file};
 ghost use Rattle.std.specs.Prelude.{◌≡◌};
 ghost use Rattle.cbsrun_loads.specs.Sketches.{sketch};
 ghost use Rattle.cbsrun_loads.specs.Spelling.{load};
+ghost use Rattle.cbsrun_records.specs.Spelling.{record_of};
 ghost use Rattle.cbsrun_commands.specs.Outputs.{changed, changed_load};
 ghost use Rattle.cbsrun_toml_tables.specs.Documents.{no_memory};
 ghost use Rattle.cbsrun_toml_tables.specs.Fields.{Gives};
 
 use cbsrun_command_line::Changes;
 use cbsrun_loads::{Load, Sketch, read_load_within, read_sketch_within};
+use cbsrun_records::{Record, read_record_within};
 use cbsrun_tasks::{FileFault, TaskFile, read_file_within};
 use std::alloc::Global;
 
@@ -35,6 +37,14 @@ pub(crate) fn sketch_file(alloc: Global, memory: u64, bytes: &[u8]) -> Result<Sk
     ensures { Gives no_memory (λ k. k) result (sketch bytes.now) }
 {
     read_sketch_within(alloc, memory, bytes).into_result()
+}
+
+/// Returns the record that the bytes spell, or its first fault. If it has to be read as one document that needs more than
+/// `memory` bytes of memory, returns out of memory.
+pub(crate) fn record_file(alloc: Global, memory: u64, bytes: &[u8]) -> Result<Record, FileFault>
+    ensures { Gives no_memory (λ f. f) result (record_of bytes.now) }
+{
+    read_record_within(alloc, memory, bytes).into_result()
 }
 
 /// Returns a load with what takes the place of its own seed and its own end.

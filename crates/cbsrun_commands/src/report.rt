@@ -63,7 +63,7 @@ fn print_report<O: ByteOutput>(
 
 /// Makes the steps of a run, and prints its report in this form, with nothing besides the run. The report names the file
 /// `name`.
-fn print_run<R: Run, O: ByteOutput>(
+pub(crate) fn print_run<R: Run, O: ByteOutput>(
     alloc: Global,
     form: Form,
     name: &str,

@@ -15,7 +15,7 @@ use crate::remarks::{append_outside_line, append_type_lines};
 use crate::shown::{append_shown, type_phrase};
 use crate::values::{append_outside, append_wrong_type};
 use cbsrun_faults::{
-    Document, Finding, Key, Meant, Spot, Subject, Want, find, header_line, meant_by, spot_at,
+    Document, Finding, Key, Kind, Meant, Spot, Subject, Want, find, header_line, meant_by, spot_at,
 };
 use cbsrun_toml_tables::{FileFault, FileKind, Place};
 use std::alloc::{AllocError, Global};
@@ -41,10 +41,12 @@ fn append_unknown(page: &mut Page, spot: &Spot<'_>, key: &str, value: &Value) {
     append_keys_note(page, line.margin(), spot.subject, false);
 }
 
-/// Appends that a document has no key that says of which kind it is, or that it is of the other kind.
+/// Appends that a document has no key that says of which kind it is, or that it is of another kind.
 fn append_other_kind(page: &mut Page, spot: &Spot<'_>) {
     page.push(if spot.document.has("load") {
         "error: this is a load file, and a task file is wanted"
+    } else if spot.document.has("record") {
+        "error: this is a record: `replay` takes one, if `record` is its first key"
     } else if spot.document.has("format") {
         "error: this is a task file, and a load file is wanted"
     } else {
@@ -52,12 +54,18 @@ fn append_other_kind(page: &mut Page, spot: &Spot<'_>) {
     });
     page.push_spot(spot);
     page.push_bar(2);
-    page.push("  = note: a task file has `format = 2`, and a load file `load = 1`\n");
+    page.push(
+        "  = note: a task file has `format = 2`, a load file `load = 1`, and a record `record = 1`\n",
+    );
 }
 
 /// Appends which command proposes a reservation, if a key of one is missing from a server of a load.
 fn append_size_help(page: &mut Page, spot: &Spot<'_>, key: Key) {
-    if matches!(spot.subject, Subject::NamedServer) && matches!(key.name, "budget" | "period") {
+    let in_load = spot.document.kind == Kind::Load;
+    if in_load
+        && matches!(spot.subject, Subject::NamedServer)
+        && matches!(key.name, "budget" | "period")
+    {
         let words = "`cbsrun size LOAD` proposes budget and period, if both are left out";
         page.push_note(2, "help", String::from_str(page.alloc, words));
     }

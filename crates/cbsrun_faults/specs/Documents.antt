@@ -4,7 +4,7 @@ use Rattle.toml.specs.Data.{Data, Members, integer, get_member}
 use Rattle.toml.specs.View.{view, table_view}
 use Rattle.cbsrun_faults.specs.declared.document.Document.{Document}
 use Rattle.cbsrun_faults.specs.declared.document.Kind.{Kind}
-use Rattle.cbsrun_faults.specs.declared.document.Kind.TheVariants.{FormatOne, FormatTwo, Load}
+use Rattle.cbsrun_faults.specs.declared.document.Kind.TheVariants.{FormatOne, FormatTwo, Load, Record}
 use Rattle.cbsrun_toml_tables.specs.declared.fault.FileKind.{FileKind}
 use Rattle.cbsrun_toml_tables.specs.Fields.{◌>>=◌, members, text_at, items_at}
 
@@ -13,10 +13,11 @@ abbrev pub is_one : Option Data → Bool
 is_one (Some (integer (pos n))) = eqb n 1
 is_one _ = false
 
--- the kind of the file with this top table: a load file if it has a key `load`
+-- the kind of the file with this top table: a load file if it has a key `load`, and else a record if it has a key `record`
 abbrev pub kind_of : Members → Kind
 kind_of top =
     if is_some (get_member (codes "load") top) then Load
+    else if is_some (get_member (codes "record") top) then Record
     else if is_one (get_member (codes "format") top) then FormatOne
     else FormatTwo
 

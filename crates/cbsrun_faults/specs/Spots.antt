@@ -7,7 +7,7 @@ use Rattle.cbsrun_toml_tables.specs.declared.fault.Place.TheVariants.{Server}
 use Rattle.cbsrun_faults.specs.Documents.{kind_of, servers_of, name_at}
 use Rattle.cbsrun_faults.specs.declared.document.Document.{Document}
 use Rattle.cbsrun_faults.specs.declared.document.Kind.{Kind}
-use Rattle.cbsrun_faults.specs.declared.document.Kind.TheVariants.{Load}
+use Rattle.cbsrun_faults.specs.declared.document.Kind.TheVariants.{Load, Record}
 use Rattle.cbsrun_faults.specs.declared.spot.Label.{Label}
 use Rattle.cbsrun_faults.specs.declared.spot.Label.TheVariants as label
 use Rattle.cbsrun_faults.specs.declared.spot.Spot.{Spot}
@@ -22,9 +22,10 @@ label_text (label.Does what) = Some (codes ", ") ++? Some what.now
 abbrev pub label_of : Spot → Option (List ℕ)
 label_of spot = label_text spot.label
 
--- what is written beside the number of a server with this name: in a load file the name, in quotes
+-- what is written beside the number of a server with this name: in a load file and in a record the name, in quotes
 abbrev pub named_label : Kind → Option (List ℕ) → Option (List ℕ)
 named_label Load (Some name) = Some (codes ", ") ++? debug_str name
+named_label Record (Some name) = Some (codes ", ") ++? debug_str name
 named_label _ _ = Some []
 
 -- what is written beside the number of a server of the document with this top table

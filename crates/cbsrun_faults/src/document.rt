@@ -18,14 +18,19 @@ pub enum Kind {
     FormatTwo,
     /// A load file.
     Load,
+    /// A record.
+    Record,
 }
 
-/// Returns the kind of a document. It is a load file if it has a key `load`.
+/// Returns the kind of a document. It is a load file if it has a key `load`, and else a record if it has a key `record`.
 fn kind_of(top: &Table) -> Kind
     ensures { result ≡ kind_of (table_view top.now) }
 {
     if optional(top, "load").is_some() {
         return Kind::Load;
+    }
+    if optional(top, "record").is_some() {
+        return Kind::Record;
     }
     match optional(top, "format") {
         Some(Value::Integer(1)) => Kind::FormatOne,

@@ -18,12 +18,16 @@ const MAX_INTEGER: u64 = 9_223_372_036_854_775_807;
 pub enum Words {
     Modes,
     Steps,
+    /// What a step of a record does.
+    RecordSteps,
     Jobs,
 }
 
 static MODES: [&str; 2] = ["soft", "throttled"];
 
 static STEPS: [&str; 4] = ["submit", "run", "advance", "close"];
+
+static RECORD_STEPS: [&str; 5] = ["submit", "run", "advance", "close", "charge"];
 
 static JOBS: [&str; 2] = ["sum", "peak"];
 
@@ -33,6 +37,7 @@ impl Words {
         match self {
             Words::Modes => &MODES,
             Words::Steps => &STEPS,
+            Words::RecordSteps => &RECORD_STEPS,
             Words::Jobs => &JOBS,
         }
     }
@@ -82,7 +87,8 @@ impl Key {
     /// Returns how a time at the key is rounded to ticks, or `None` if the key has no time.
     pub fn rounding(self) -> Option<Rounding> {
         match self.name {
-            "units" if matches!(self.want, Want::Units) => None,
+            // A job of a record has a number of units, and a source of a load has a range.
+            "units" if matches!(self.want, Want::Units | Want::Number(_, _)) => None,
             "units" | "overrun" | "jitter" | "budget" | "until" => Some(Rounding::Up),
             "first" | "every" | "at" | "within" => Some(Rounding::Down),
             "period" => Some(Rounding::Whole),
@@ -144,6 +150,15 @@ static LOAD: [Key; 8] = [
     optional_key!("seed", Want::Number(0, MAX_INTEGER)),
     key!("server", Want::Tables(MAX_INTEGER)),
     key!("source", Want::Tables(MAX_SOURCES as u64)),
+];
+
+static RECORD: [Key; 6] = [
+    key!("record", Want::Number(1, 1)),
+    optional_key!("tick", Want::Tick),
+    key!("bound", Want::Bound),
+    key!("backlog", Want::Number(1, MAX_BACKLOG)),
+    key!("server", Want::Tables(MAX_INTEGER)),
+    key!("step", Want::Tables(MAX_INTEGER)),
 ];
 
 static PLAIN_SERVER: [Key; 2] = [
@@ -211,6 +226,25 @@ static CLOSE: [Key; 2] = [
     key!("server", Want::Server),
 ];
 
+static RECORD_STEP: [Key; 1] = [key!("op", Want::Word(Words::RecordSteps))];
+
+static COUNTED_SUBMIT: [Key; 3] = [
+    key!("op", Want::Word(Words::RecordSteps)),
+    key!("server", Want::Server),
+    key!("units", Want::Number(1, MAX_UNITS as u64)),
+];
+
+static RUNS: [Key; 2] = [
+    key!("op", Want::Word(Words::RecordSteps)),
+    optional_key!("times", Want::Number(1, LIMIT)),
+];
+
+static CHARGE: [Key; 3] = [
+    key!("op", Want::Word(Words::RecordSteps)),
+    key!("server", Want::Server),
+    key!("ticks", Want::Number(1, LIMIT)),
+];
+
 /// A kind of table.
 #[derive(Clone, Copy)]
 pub enum Subject {
@@ -220,11 +254,13 @@ pub enum Subject {
     FormatTwo,
     /// The top table of a load file.
     Load,
+    /// The top table of a record.
+    Record,
     /// A server of a task file of format 1.
     PlainServer,
     /// A server of a task file of format 2.
     ModedServer,
-    /// A server of a load file.
+    /// A server of a load file or of a record.
     NamedServer,
     Source,
     /// A source that lists its ticks: it has the key `at`.
@@ -237,6 +273,13 @@ pub enum Subject {
     /// An advance of a task file of format 1.
     OldAdvance,
     Close,
+    /// A step of a record whose `op` is not known.
+    RecordStep,
+    /// A submit of a record: its job is a number of units.
+    CountedSubmit,
+    /// Runs in a row, of a record.
+    Runs,
+    Charge,
 }
 
 impl Subject {
@@ -246,6 +289,7 @@ impl Subject {
             Subject::FormatOne => &FORMAT_ONE,
             Subject::FormatTwo => &FORMAT_TWO,
             Subject::Load => &LOAD,
+            Subject::Record => &RECORD,
             Subject::PlainServer => &PLAIN_SERVER,
             Subject::ModedServer => &MODED_SERVER,
             Subject::NamedServer => &NAMED_SERVER,
@@ -256,6 +300,10 @@ impl Subject {
             Subject::Advance => &ADVANCE,
             Subject::OldAdvance => &OLD_ADVANCE_KEYS,
             Subject::Close => &CLOSE,
+            Subject::RecordStep => &RECORD_STEP,
+            Subject::CountedSubmit => &COUNTED_SUBMIT,
+            Subject::Runs => &RUNS,
+            Subject::Charge => &CHARGE,
         }
     }
 
@@ -270,14 +318,16 @@ impl Subject {
             Subject::FormatOne => "a task file of format 1",
             Subject::FormatTwo => "a task file",
             Subject::Load => "a load file",
+            Subject::Record => "a record",
             Subject::PlainServer | Subject::ModedServer | Subject::NamedServer => "a server",
             Subject::Source => "a source",
             Subject::ListingSource => "a source with `at`",
-            Subject::Step => "a step",
-            Subject::Submit => "a submit",
-            Subject::Run => "a run",
+            Subject::Step | Subject::RecordStep => "a step",
+            Subject::Submit | Subject::CountedSubmit => "a submit",
+            Subject::Run | Subject::Runs => "a run",
             Subject::Advance | Subject::OldAdvance => "an advance",
             Subject::Close => "a close",
+            Subject::Charge => "a charge",
         }
     }
 }

@@ -63,6 +63,14 @@ static BESIDE_TASKS: [Other; 2] = [
     (Subject::ModedServer, "a server"),
 ];
 
+static BESIDE_RECORDS: [Other; 3] = [
+    (Subject::FormatTwo, "a task file"),
+    (Subject::Load, "a load file"),
+    (Subject::NamedServer, "a server"),
+];
+
+static BESIDE_SUBMITS_OF_RECORDS: [Other; 1] = [(Subject::Submit, "a submit of a task file")];
+
 static BESIDE_SERVERS_OF_LOADS: [Other; 2] = [
     (Subject::Source, "a source"),
     (Subject::Load, "the top of the file"),
@@ -93,6 +101,8 @@ fn others(subject: Subject) -> &'static [Other] {
     match subject {
         Subject::FormatOne | Subject::FormatTwo => &BESIDE_TASKS,
         Subject::Load => &BESIDE_LOADS,
+        Subject::Record => &BESIDE_RECORDS,
+        Subject::CountedSubmit => &BESIDE_SUBMITS_OF_RECORDS,
         Subject::PlainServer | Subject::ModedServer => &BESIDE_SERVERS_OF_TASKS,
         Subject::NamedServer => &BESIDE_SERVERS_OF_LOADS,
         Subject::Source | Subject::ListingSource => &BESIDE_SOURCES,

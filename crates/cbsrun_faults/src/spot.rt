@@ -83,12 +83,27 @@ fn server_subject(kind: Kind) -> Subject {
     match kind {
         Kind::FormatOne => Subject::PlainServer,
         Kind::FormatTwo => Subject::ModedServer,
-        Kind::Load => Subject::NamedServer,
+        Kind::Load | Kind::Record => Subject::NamedServer,
+    }
+}
+
+/// Returns the kind of a step of a record, by its `op`.
+fn record_subject(entry: &Value) -> Subject {
+    match text_at(entry, "op") {
+        Some("submit") => Subject::CountedSubmit,
+        Some("run") => Subject::Runs,
+        Some("advance") => Subject::Advance,
+        Some("close") => Subject::Close,
+        Some("charge") => Subject::Charge,
+        _ => Subject::RecordStep,
     }
 }
 
 /// Returns the kind of a step, by its `op`.
 fn step_subject(kind: Kind, entry: &Value) -> Subject {
+    if kind == Kind::Record {
+        return record_subject(entry);
+    }
     match text_at(entry, "op") {
         Some("submit") => Subject::Submit,
         Some("run") => Subject::Run,
@@ -104,7 +119,7 @@ fn server_label(kind: Kind, entry: &Value) -> Label<'_>
     ensures { label_text result ≡ named_label kind (name_of (view entry.now)) }
 {
     match name_of(entry) {
-        Some(name) if kind == Kind::Load => Label::Named(name),
+        Some(name) if matches!(kind, Kind::Load | Kind::Record) => Label::Named(name),
         _ => Label::Nothing,
     }
 }
@@ -120,7 +135,7 @@ fn source_label<'a>(servers: &[Value], entry: &'a Value) -> Label<'a> {
 /// Returns what is written about a step.
 fn step_label(subject: Subject) -> Label<'static> {
     match subject {
-        Subject::Step => Label::Nothing,
+        Subject::Step | Subject::RecordStep => Label::Nothing,
         _ => Label::Does(subject.phrase()),
     }
 }
@@ -134,6 +149,7 @@ fn top_spot(document: Document<'_>) -> Spot<'_> {
             Kind::FormatOne => Subject::FormatOne,
             Kind::FormatTwo => Subject::FormatTwo,
             Kind::Load => Subject::Load,
+            Kind::Record => Subject::Record,
         },
         table: Some(document.top),
         entry: None,

@@ -58,8 +58,9 @@ pub(crate) fn admit_entry(
     Ok(())
 }
 
-/// Returns the names, the plan and the modes of the servers of the entries of `server`.
-pub(crate) fn servers_of(
+/// Returns the names, the plan and the modes of the servers of the entries of `server`, or the first fault. Each entry is
+/// tested, and then its server is admitted to the plan. A name that an earlier server has is refused as out of range.
+pub fn servers_of(
     alloc: Global,
     tick: Option<u64>,
     bound: Bound,

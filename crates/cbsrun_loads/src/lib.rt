@@ -15,7 +15,7 @@ mod times;
 mod top;
 
 pub use faults::{Faults, load_faults};
-pub use file::{load_in, read_load, read_load_within};
+pub use file::{load_in, read_load, read_load_within, servers_of};
 pub use load::Load;
 pub use sketch::{Given, ServerSketch, Sketch};
 pub use sketch_file::read_sketch_within;

@@ -1,5 +1,5 @@
 -- What is not enough with a backlog is not enough with a lesser one.
-use Rattle.std.proofs.Common.{◌≡◌, ℕ, ◌≤◌, ◌<◌, List, arith, inl, inr}
+use Rattle.std.proofs.Common.{ℕ, ◌≤◌, List, arith, inl, inr}
 use Rattle.cbs_rate.specs.Rate.{Rate}
 use Rattle.cbs_guarantee.specs.declared.source.NotPromised.TheVariants as why
 use Rattle.cbs_guarantee.specs.declared.source.Source.{Source}

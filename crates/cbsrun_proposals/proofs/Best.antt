@@ -11,7 +11,7 @@ use Rattle.cbs_rate.specs.Limits.{most_servers}
 use Rattle.cbs_rate.specs.Rate.{Rate, IsRate}
 use Rattle.cbs_guarantee.specs.declared.source.NotPromised.TheVariants as why
 use Rattle.cbs_guarantee.specs.declared.source.Source.{Source}
-use Rattle.cbsrun_proposals.specs.Proposals.{rate, IsLess, IsNotEnough, IsNeverEnough, IsLongest, IsNoLess, IsBestOf, IsEnough, parts_of, budgets_of}
+use Rattle.cbsrun_proposals.specs.Proposals.{rate, IsLess, IsNeverEnough, IsLongest, IsNoLess, IsBestOf, parts_of, budgets_of}
 use Rattle.cbsrun_proposals.specs.declared.wanted.Wanted.{Wanted}
 
 -- less than what is no more than a share is less than that share

@@ -1,5 +1,5 @@
 -- What is not enough at a period is not enough at a longer one.
-use Rattle.std.proofs.Common.{◌≡◌, ℕ, zero, suc, ◌+◌, ◌*◌, ◌/◌, ◌%◌, ◌≤◌, ◌<◌, Bool, true, false, leb, eqb, ◌&&◌, min, List, [], ◌∷◌, ◌⊎◌, length, arith, refl, inl, inr, ap, sym, ◌∙◌, Option, Some, None}
+use Rattle.std.proofs.Common.{◌≡◌, ℕ, zero, suc, ◌+◌, ◌*◌, ◌/◌, ◌%◌, ◌≤◌, ◌<◌, Bool, true, false, eqb, ◌&&◌, min, List, [], ◌∷◌, arith, refl, inl, inr, ap, ◌∙◌, Option, Some, None}
 use Rattle.std.specs.Int.{div_ceil}
 use Rattle.std.specs.List.{sum_by, list_all, AllByRecursion}
 use Rattle.std.proofs.Math.Nat.{lt_of_mul-lt-mul_right}
@@ -8,10 +8,9 @@ use Rattle.std.proofs.lemmas.Nat.{mul-le}
 use Rattle.std.proofs.lemmas.Grind.{div_ceil_times}
 use Rattle.std.proofs.lemmas.List.Sums.{sum_by-cons}
 use Rattle.cbs_rate.specs.Rate.{Rate}
-use Rattle.cbs_rate.specs.Plan.{share, total_share, all_periods, common_multiple, common_multiple_from}
-use Rattle.cbs_guarantee.specs.Sources.{ticks_of, streams_of, time_for, IsOneAtATime, IsReason}
+use Rattle.cbs_rate.specs.Plan.{share, all_periods, common_multiple, common_multiple_from}
+use Rattle.cbs_guarantee.specs.Sources.{ticks_of, streams_of, time_for}
 use Rattle.cbs_guarantee.specs.Streams.{span_of, all_spans, backlog_for, IsStream, IsBearable}
-use Rattle.cbs_guarantee.specs.declared.source.NotPromised.{NotPromised}
 use Rattle.cbs_guarantee.specs.declared.source.NotPromised.TheVariants as why
 use Rattle.cbs_guarantee.specs.declared.source.Source.{Source}
 use Rattle.cbsrun_proposals.specs.Proposals.{rate, is_by, IsNotEnough}

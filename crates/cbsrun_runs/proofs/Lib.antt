@@ -5,7 +5,8 @@ mod ThrottledTicks
 mod Servers
 mod KeptReports
 mod KeptMoves
-mod TaskSteps
+mod SeenSteps
 mod MadeSteps
-mod TaskTurns
+mod StepTurns
 mod Drawings
+mod ShownAgain

@@ -1,4 +1,4 @@
--- The steps of a task file, as a core makes them.
+-- Steps, as a core makes them.
 use Rattle.std.proofs.Common.{◌≡◌, ◌∙◌, ℕ, true, false, List, [], ◌∷◌, ◌++◌, ap, arith, eqb, inl, inr, refl}
 use Rattle.std.proofs.lemmas.Bool.{cases_Bool}
 use Rattle.std.proofs.lemmas.Bool.Decides.{nat_tests}
@@ -7,10 +7,7 @@ use Rattle.cbs_core.specs.Agreement.{Agrees}
 use Rattle.cbs_core.specs.Calls.{Makes}
 use Rattle.cbs_core.specs.Held.{CoreHeld, held_at, CountsOn, DoesRun, OthersSame}
 use Rattle.cbs_core.proofs.Completions.{step_tells}
-use Rattle.cbs_core.proofs.Laws.{steps_complete}
-use Rattle.cbs_job.specs.FileJobs.{of_files}
-use Rattle.cbs_job.specs.declared.file.FileJob.{FileJob}
-use Rattle.cbs_steps.specs.Continuations.{◌⊕⊕◌}
+use Rattle.cbs_job.specs.Work.{Meaning}
 use Rattle.cbs_steps.specs.History.{History, ◌⊕◌, world_after}
 use Rattle.cbs_steps.specs.Laws.{completion_in, completion_ran}
 use Rattle.cbs_steps.specs.Replies.{is_lack}
@@ -20,9 +17,9 @@ use Rattle.cbs_steps.specs.declared.reply.Reply.{Reply}
 use Rattle.cbs_steps.specs.declared.step.Step.{Step}
 use Rattle.cbsrun_events.specs.Steps.{seen_at}
 use Rattle.cbsrun_events.specs.declared.seen.Event.{Event}
-use Rattle.cbsrun_runs.specs.Tasks.{event_of_step, seen_after, CompletesAll, HasMade, MakesStep}
+use Rattle.cbsrun_runs.specs.Steps.{event_of_step, seen_after, CompletesAll, HasMade, MakesStep}
 
-module _ (old new : CoreHeld FileJob) where
+module _ {W : Type 0} (work : Meaning W) (old new : CoreHeld W) where
   -- a call that finishes no job of server t, and leaves the other servers, finishes none
   pub finishes_none : (t : ℕ) → (held_at new t).face.finished ≡ (held_at old t).face.finished → OthersSame t old new
       → (s : ℕ) → (held_at new s).face.finished ≡ (held_at old s).face.finished
@@ -32,33 +29,29 @@ module _ (old new : CoreHeld FileJob) where
   ]
 
   -- the jobs that a run finishes are counted by its result
-  pub run_counts : (r : Ran) → DoesRun of_files r old new → CountsOn (completion_ran r) old new
-  run_counts ran.Idle same = λ s. ap (λ (c : CoreHeld FileJob). (held_at c s).face.finished) same
-  run_counts ran.ClockEnd same = λ s. ap (λ (c : CoreHeld FileJob). (held_at c s).face.finished) same
+  pub run_counts : (r : Ran) → DoesRun work r old new → CountsOn (completion_ran r) old new
+  run_counts ran.Idle same = λ s. ap (λ (c : CoreHeld W). (held_at c s).face.finished) same
+  run_counts ran.ClockEnd same = λ s. ap (λ (c : CoreHeld W). (held_at c s).face.finished) same
   run_counts (ran.Unit t q) ran = finishes_none t ran.0.finished ran.1
   run_counts (ran.Done c) ran = (ran.0.number, ran.0.finished, λ s other. (ran.1 s other).finished)
 
   -- a step is made, by its reply and by how many jobs it finishes, unless memory refused it
-  pub step_made : (x : Step FileJob) (r : Reply FileJob) (e : Event) → is_lack r ≡ false → Makes of_files old new x r
+  pub step_made : (x : Step W) (r : Reply W) (e : Event) → is_lack r ≡ false → Makes work old new x r
       → CountsOn (completion_in r) old new
-      → ((M : History FileJob) → Agrees of_files new (M ⊕ x) → e ≡ event_of_step (world_after of_files (M ⊕ x)) x r) → MakesStep old x new e
+      → ((M : History W) → Agrees work new (M ⊕ x) → e ≡ event_of_step work (world_after work (M ⊕ x)) x r) → MakesStep work old x new e
   step_made x r e sure made counts is = λ M agrees.
       let answers = made.reply M agrees in
       let state = made.state M agrees in
       record {
         state = state;
-        told = is M state ∙ ap (λ a. event_of_step (world_after of_files (M ⊕ x)) x a) answers;
-        completes = λ s. rw append-nil (rw answers at (step_tells of_files M x r s old new sure (rw sure answers) counts agrees (rw sure state)));
+        told = is M state ∙ ap (λ a. event_of_step work (world_after work (M ⊕ x)) x a) answers;
+        completes = λ s. rw append-nil (rw answers at (step_tells work M x r s old new sure (rw sure answers) counts agrees (rw sure state)));
       }
 
--- it is seen as the definitions say
-pub made_seen : (M : History FileJob) (x : Step FileJob) (new : CoreHeld FileJob) (e : Event) → HasMade M x new e
-    → seen_at new.clock new.faces e ≡ seen_after M x
-made_seen M x new e made =
-    let w = made.state.world in
-    rw (w.clock, w.shown, made.told) refl
-
--- completions over steps, and over one step more
-pub completes_more : (M : History FileJob) (xs : List (Step FileJob)) (x : Step FileJob) (s : ℕ) → CompletesAll M xs s
-    → CompletesAll (M ⊕⊕ xs) (x ∷ []) s → CompletesAll M (xs ++ x ∷ []) s
-completes_more M xs x s before now = steps_complete of_files M xs x s before (rw append-nil at now)
+module _ {W : Type 0} (work : Meaning W) where
+  -- it is seen as the definitions say
+  pub made_seen : (M : History W) (x : Step W) (new : CoreHeld W) (e : Event) → HasMade work M x new e
+      → seen_at new.clock new.faces e ≡ seen_after work M x
+  made_seen M x new e made =
+      let w = made.state.world in
+      rw (w.clock, w.shown, made.told) refl

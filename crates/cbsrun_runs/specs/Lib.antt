@@ -1,5 +1,7 @@
 pub mod Loads
+pub mod Records
 pub mod Runs
+pub mod Steps
 pub mod Tasks
 -- what the clauses name of the libraries below
 pub use Rattle.cbs_core.specs.Agreement

@@ -3,13 +3,14 @@
 ghost use Rattle.std.specs.Prelude.{◌≡◌, IfOk};
 ghost use Rattle.cbsrun_runs.specs.Tasks.{KeepsLaws, clock_of_tasks, run_of_tasks};
 
+use crate::end::end_of;
 use crate::run::Run;
-use crate::task_steps::show_steps;
+use crate::steps::show_steps;
 use cbs_core::{Core, Step};
 use cbs_job::FileJob;
 use cbs_rate::Plan;
 use cbs_rules::{Modes, Setup};
-use cbsrun_events::{Seen, View};
+use cbsrun_events::View;
 use cbsrun_simulate::Range;
 use cbsrun_tasks::{Parts, TaskFile};
 use std::alloc::{AllocError, Global};
@@ -108,21 +109,9 @@ impl Run for Replay {
     }
 }
 
-/// A view that ignores all that it sees.
-#[derive(Drop)]
-struct Blind;
-
-impl View<()> for Blind {
-    ghost saw = { λ first now seen. Unit {0} };
-
-    fn see(&mut self, _lent: &mut (), _seen: Seen) -> Result<(), AllocError> {
-        Ok(())
-    }
-}
-
 /// Returns the clock after the steps of a task file, which it makes. The only error is out of memory.
 pub fn clock_of(alloc: Global, tasks: TaskFile) -> Result<u64, AllocError>
     ensures { IfOk result (λ clock. clock ≡ clock_of_tasks tasks) }
 {
-    Replay::of(tasks).show(alloc, &mut Blind, &mut ())
+    end_of(alloc, &mut Replay::of(tasks))
 }

@@ -27,7 +27,7 @@ use Rattle.cbs_guarantee.proofs.Steps.{no_jobs}
 use Rattle.cbsrun_simulate.specs.Loading.{loading, job_of}
 use Rattle.cbsrun_simulate.specs.MoveLaws.{AllMoves}
 use Rattle.cbsrun_simulate.specs.Moves.{Simulation, moves_of}
-use Rattle.cbsrun_simulate.specs.Released.{HasRanges, IsOfSource, AreApart, distance, least_distance}
+use Rattle.cbsrun_simulate.specs.Released.{HasRanges, IsOfSource, AreApart, least_distance}
 use Rattle.cbsrun_simulate.specs.declared.load_job.LoadJob.{LoadJob}
 use Rattle.cbsrun_simulate.specs.declared.release.Release.{Release}
 use Rattle.cbsrun_simulate.specs.declared.terms.SourceTerms.{SourceTerms}

@@ -1,4 +1,3 @@
-pub mod Blanks
 pub mod Documents
 pub mod OtherSteps
 pub mod PairLines

@@ -20,7 +20,7 @@ use Rattle.cbsrun_tasks.specs.declared.stream.Document.{Document}
 use Rattle.cbsrun_tasks.specs.declared.steps.StepsRead.{StepsRead}
 use Rattle.cbsrun_tasks.specs.declared.terms.Terms.{Terms}
 use Rattle.cbsrun_tasks.specs.Entries.{step_entry}
-use Rattle.cbsrun_tasks.specs.Plain.{PutsLines}
+use Rattle.cbsrun_toml_plain.specs.Pairs.{PutsLines}
 use Rattle.cbsrun_tasks.specs.TaskFiles.{IsFileStep}
 
 -- the steps, or the first fault, which stands at the entry after them

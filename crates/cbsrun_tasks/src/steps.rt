@@ -13,11 +13,12 @@ ghost use Rattle.cbsrun_tasks.specs.TaskFiles.{IsFileStep};
 ghost use Rattle.cbsrun_tasks.specs.declared.terms.Terms.{Terms};
 
 use crate::entries::step_entry;
-use crate::plain::{Layout, plain_step};
+use crate::plain::plain_step;
 use crate::terms::Terms;
 use cbs_core::Step;
 use cbs_job::FileJob;
 use cbsrun_toml::{Room, Stop, after_element, array_header, pairs, value};
+use cbsrun_toml_plain::Layout;
 use cbsrun_toml_tables::FileKind;
 use std::alloc::Global;
 use toml::Value;

@@ -85,6 +85,57 @@ fn a_tape_has_what_it_was_told(rt: HostRuntime) {
     same(&rt, "bytes", tape.end().as_slice(), &THIRTEEN);
 }
 
+/// Hands out what a tape has, and checks the bytes.
+fn hands_out(rt: &impl Abort, tape: &mut Tape, wanted: &[u8]) {
+    let mut out = [0xAA; 44];
+    let taken = tape
+        .take(&mut out)
+        .expect(rt, "a place that is long enough");
+    same(rt, "taken", out.get(..taken).expect(rt, "bytes"), wanted);
+    let others = out.get(taken..).expect(rt, "bytes");
+    same(rt, "others", others.iter().all(|&byte| byte == 0xAA), true);
+}
+
+#[test]
+fn a_tape_is_handed_out_in_pieces(rt: HostRuntime) {
+    let alloc = rt.alloc();
+    let mut tape = Tape::new(alloc, 13).ok().expect(&rt, "memory");
+    same(&rt, "size", tape.size(), 44);
+    hands_out(&rt, &mut tape, &[]);
+    tape.accepted(0, 3);
+    tape.ran();
+    tape.ran();
+    // A place that is a byte too short gets nothing.
+    same(&rt, "take", tape.take(&mut [0; 43]).is_none(), true);
+    hands_out(&rt, &mut tape, &[0x40, 0x03, 0xC1]);
+    tape.ran();
+    hands_out(&rt, &mut tape, &[0xC0]);
+    same(&rt, "is_whole", tape.is_whole(), true);
+    tape.advanced(17);
+    same(&rt, "end", tape.end().as_slice(), &[0x02, 0x11, 0x04]);
+}
+
+#[test]
+fn a_tape_goes_on_after_it_was_handed_out(rt: HostRuntime) {
+    let alloc = rt.alloc();
+    // It has no room for two steps without that.
+    let mut tape = Tape::new(alloc, 0).ok().expect(&rt, "memory");
+    for _piece in 0..100 {
+        tape.advanced(17);
+        let mut out = [0; 31];
+        same(&rt, "take", tape.take(&mut out), Some(2));
+    }
+    same(&rt, "whole before", tape.is_whole(), true);
+    tape.advanced(17);
+    tape.advanced(17);
+    same(&rt, "whole after", tape.is_whole(), false);
+    let mut out = [0; 31];
+    same(&rt, "take", tape.take(&mut out), Some(2));
+    tape.advanced(17);
+    same(&rt, "lost", tape.take(&mut out), Some(0));
+    same(&rt, "end", tape.end().as_slice(), &[]);
+}
+
 #[test]
 fn a_tape_with_no_room_has_the_first_steps(rt: HostRuntime) {
     let alloc = rt.alloc();

@@ -75,7 +75,7 @@ fn houses_and_clients_refuse_by_their_texts(rt: HostRuntime) {
 }
 
 /// The status of each error of a handle, and the text of the status.
-static OF_HANDLES: [(HandleError, u32, &str); 5] = [
+static OF_HANDLES: [(HandleError, u32, &str); 6] = [
     (HandleError::NotOpen, 0x601, "the handle is not open"),
     (
         HandleError::OtherKind,
@@ -97,6 +97,11 @@ static OF_HANDLES: [(HandleError, u32, &str); 5] = [
         0x605,
         "the client's house was freed",
     ),
+    (
+        HandleError::NoTape,
+        0x606,
+        "the house has no tape, or the place is shorter than its memory",
+    ),
 ];
 
 #[test]
@@ -111,5 +116,5 @@ fn handles_are_refused_by_texts_of_their_own(rt: HostRuntime) {
 fn no_other_status_has_a_text(rt: HostRuntime) {
     same(&rt, "text", text_of(0), "no error");
     same(&rt, "text", text_of(0x100), "no such status");
-    same(&rt, "text", text_of(0x606), "no such status");
+    same(&rt, "text", text_of(0x607), "no such status");
 }

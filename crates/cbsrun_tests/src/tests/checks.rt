@@ -29,7 +29,7 @@ The periods come together every tick.
 #[test]
 fn no_server(rt: HostRuntime) {
     let plan = Plan::new(Bound::new(9, 10).expect(&rt, "a bound"));
-    let text = check_plan(rt.alloc(), &plan, &Modes::new())
+    let text = check_plan(rt.alloc(), None, &[], &Modes::new(), &plan)
         .ok()
         .expect(&rt, "memory");
     same(&rt, "check", text.as_str(), NONE_TEXT);

@@ -25,12 +25,8 @@ fn asks(rt: &impl Abort, alloc: Global, line: &str, action: Action, file: &str) 
         .ok()
         .expect(rt, line);
     same(rt, line, asked.files.len(), 1);
-    same(
-        rt,
-        line,
-        (asked.action, asked.files[0].as_str()),
-        (action, file),
-    );
+    same(rt, line, asked.action == action, true);
+    same(rt, line, asked.files[0].as_str(), file);
 }
 
 /// Ends the test unless a command line has a fault with this number and name, and a text.

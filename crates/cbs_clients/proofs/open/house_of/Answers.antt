@@ -23,6 +23,7 @@ returns-clause-made g c =
       few = rw (← c.servers-servers.ensures.value) c.servers-servers.ensures.few;
       empty = λ s. let r = new_rings made.rings made.ensures.new s in
           rw (r.0, r.1, (c.in-Ok.ensures.empty s).results, (c.in-Ok.ensures.empty s).handed, (c.in-Ok.ensures.empty s).early) refl;
+      untold = refl;
       servers = rw (← c.servers-servers.ensures.value) made.ensures.clients;
       unused = made.ensures.unused;
       opened = all_opened (rings_in made.rings) made.clients.items c.servers-servers.result made.ensures.rings made.ensures.clients;

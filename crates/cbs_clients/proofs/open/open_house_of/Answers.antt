@@ -27,6 +27,7 @@ returns-clause-new g c =
     IfOk-weaker c.house_of.result (λ r. HousesCore c.in-Ok.core c.args.ring r.0 r.1.items) (λ r. IsNewHouse work setup r.0) (λ r made. record {
       agrees = rw made.same c.in-Ok.ensures.start;
       empty = made.empty;
+      untold = made.untold;
       on_time = rw made.same c.in-Ok.ensures.on_time;
       paced = rw made.same c.in-Ok.ensures.paced;
       punctual = c.in-Ok.ensures.punctual;

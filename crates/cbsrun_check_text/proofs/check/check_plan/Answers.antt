@@ -7,12 +7,5 @@ returns c = record {
   budgets = c.in_ok-budgets.budgets.items;
   greatest = c.in_ok-budgets.ensures.greatest;
   split = split_of c.args.plan.now c.in_ok-budgets.ensures.lawful;
-  text_is = rw (
-    c.in_ok-append_plan.ensures,
-    c.new-text.ensures.bytes,
-    c.deref.ensures.value,
-    c.in_ok-names.ensures.names,
-    c.deref-2.ensures.value,
-    c.len.ensures.value,
-  ) refl;
+  text_is = rw (c.in_ok-append_plan.ensures, c.new-text.ensures.bytes, c.deref.ensures.value) refl;
 }

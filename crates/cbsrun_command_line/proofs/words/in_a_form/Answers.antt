@@ -1,24 +1,37 @@
 use Rattle.std.proofs.Common.{arith}
 use Rattle.std.proofs.lemmas.Grind.{common_steps}
+use Rattle.std.proofs.lemmas.Result.{err_from_is_err_and}
 use Rattle.cbsrun_command_line.proofs.words.in_a_form.Goals as goal
 
 pub returns-in_err-verb-clause-app : goal.returns-in_err-verb-clause-app
-returns-in_err-verb-clause-app c = grind (arith, common_steps)
+returns-in_err-verb-clause-app c =
+    let p = err_from_is_err_and c.from_residual.result c.from_residual.ensures.1 in
+    rw p.1 tt
 
 pub returns-in_err-verb-clause-local : goal.returns-in_err-verb-clause-local
-returns-in_err-verb-clause-local c = grind (arith, common_steps)
+returns-in_err-verb-clause-local c =
+    let p = err_from_is_err_and c.from_residual.result c.from_residual.ensures.1 in
+    rw p.1 tt
 
 pub returns-in_err-verb-2-clause-app : goal.returns-in_err-verb-2-clause-app
-returns-in_err-verb-2-clause-app c = grind (arith, common_steps)
+returns-in_err-verb-2-clause-app c =
+    let p = err_from_is_err_and c.from_residual-in_err-verb-2.result c.from_residual-in_err-verb-2.ensures.1 in
+    rw p.1 tt
 
 pub returns-in_err-verb-2-clause-local : goal.returns-in_err-verb-2-clause-local
-returns-in_err-verb-2-clause-local c = grind (arith, common_steps)
+returns-in_err-verb-2-clause-local c =
+    let p = err_from_is_err_and c.from_residual-in_err-verb-2.result c.from_residual-in_err-verb-2.ensures.1 in
+    rw p.1 tt
 
 pub returns-in_err-verb-3-clause-app : goal.returns-in_err-verb-3-clause-app
-returns-in_err-verb-3-clause-app c = grind (arith, common_steps)
+returns-in_err-verb-3-clause-app c =
+    let p = err_from_is_err_and c.from_residual-in_err-verb-3.result c.from_residual-in_err-verb-3.ensures.1 in
+    rw p.1 tt
 
 pub returns-in_err-verb-3-clause-local : goal.returns-in_err-verb-3-clause-local
-returns-in_err-verb-3-clause-local c = grind (arith, common_steps)
+returns-in_err-verb-3-clause-local c =
+    let p = err_from_is_err_and c.from_residual-in_err-verb-3.result c.from_residual-in_err-verb-3.ensures.1 in
+    rw p.1 tt
 
 pub returns-clause-app : goal.returns-clause-app
 returns-clause-app c = grind (arith, common_steps)

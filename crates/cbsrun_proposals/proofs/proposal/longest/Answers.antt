@@ -1,4 +1,4 @@
-use Rattle.std.proofs.Common.{◌≡◌, ◌+◌, ◌≤◌, ◌<◌, true, false, not, eqb, ltb, refl, arith, inl, inr}
+use Rattle.std.proofs.Common.{◌≡◌, ◌+◌, false, eqb, ltb, refl, arith, inl, inr}
 use Rattle.std.proofs.lemmas.Bool.{cases_Bool}
 use Rattle.std.proofs.lemmas.Bool.Decides.{nat_tests}
 use Rattle.cbs_rate.specs.Limits.{longest_period}
@@ -47,3 +47,19 @@ returns-in-Err c =
     let three : ltb c.loop-beyond.found c.args.budget ≡ false = grind (arith, nat_tests) in
     let none = rw (one, two, three) at c.in-Err.ensures in
     absurd (cc)
+
+pub loop-beyond-init : goal.loop-beyond-init
+loop-beyond-init c =
+    let enough = c.suffices.ensures.yes c.if-not-suffices.false in
+    let short = enough.0.short in
+    (omega arith, omega arith, enough, λ is. let beyond = is.short in absurd (omega arith))
+
+pub loop-beyond-preserved-then-suffices : goal.loop-beyond-preserved-then-suffices
+loop-beyond-preserved-then-suffices c =
+    let l = c.loop-beyond.invariant in
+    (omega arith, l.1, c.suffices-in-loop-beyond.ensures.yes c.if-suffices.true, l.3)
+
+pub loop-beyond-preserved : goal.loop-beyond-preserved
+loop-beyond-preserved c =
+    let l = c.loop-beyond.invariant in
+    (omega arith, omega arith, l.2, c.suffices-in-loop-beyond.ensures.no c.if-suffices.false)

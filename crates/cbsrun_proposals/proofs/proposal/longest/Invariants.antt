@@ -1,4 +1,4 @@
-use Rattle.std.proofs.Common.{◌≡◌, ◌+◌, ◌-◌, ◌≤◌, ◌<◌}
+use Rattle.std.proofs.Common.{◌+◌, ◌-◌, ◌≤◌, ◌<◌}
 use Rattle.cbs_rate.specs.Limits.{longest_period}
 use Rattle.cbs_rate.specs.Rate.{IsRate}
 use Rattle.cbsrun_proposals.specs.Proposals.{rate, IsEnough, IsNotEnough}

@@ -1,4 +1,4 @@
-use Rattle.std.proofs.Common.{◌≡◌, take, arith}
+use Rattle.std.proofs.Common.{take, arith}
 use Rattle.std.proofs.lemmas.List.{take_all}
 use Rattle.cbsrun_proposals.specs.Proposals.{budgets_of}
 use Rattle.cbsrun_proposals.proofs.Best.{best_next, never_of_many}

@@ -1,4 +1,4 @@
-use Rattle.std.proofs.Common.{◌≡◌, ◌*◌, ◌≤◌, ◌<◌, arith}
+use Rattle.std.proofs.Common.{arith}
 use Rattle.std.proofs.lemmas.Bool.Decides.{nat_tests}
 use Rattle.cbsrun_proposals.proofs.Best.{best_never, best_first, best_taken, best_kept}
 use Rattle.cbsrun_proposals.proofs.proposal.with_budget.Goals as goal

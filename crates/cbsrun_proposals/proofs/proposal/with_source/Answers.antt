@@ -1,10 +1,10 @@
-use Rattle.std.proofs.Common.{◌≡◌, ℕ, List, ◌+◌, ◌++◌, [], ◌∷◌, map, arith, refl, sym, ◌∙◌, ap}
+use Rattle.std.proofs.Common.{◌≡◌, ℕ, ◌+◌, ◌++◌, [], ◌∷◌, map, arith, sym, ◌∙◌, ap}
 use Rattle.std.specs.Int.{div_ceil}
 use Rattle.std.specs.List.{range_with_len}
 use Rattle.std.proofs.lemmas.List.{append_assoc}
 use Rattle.std.proofs.lemmas.List.FromFn.{map-range_with_len_more}
 use Rattle.cbs_guarantee.specs.Sources.{ticks_of}
-use Rattle.cbsrun_proposals.specs.Proposals.{IsBestOf, most_parts}
+use Rattle.cbsrun_proposals.specs.Proposals.{most_parts}
 use Rattle.cbsrun_proposals.proofs.proposal.with_source.Goals as goal
 
 pub loop-part-preserved : goal.loop-part-preserved

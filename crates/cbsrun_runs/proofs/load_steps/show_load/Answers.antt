@@ -6,7 +6,7 @@ use Rattle.cbsrun_sizing.proofs.LateMoves.{lateness_kept}
 use Rattle.cbsrun_runs.specs.Loads.{start_of}
 use Rattle.cbsrun_runs.proofs.KeptMoves.{promises_kept}
 use Rattle.cbsrun_runs.proofs.Runs.{simulation, same_seen, saw_none, saw_some}
-use Rattle.cbsrun_runs.proofs.TaskSteps.{on_err_always}
+use Rattle.cbsrun_runs.proofs.SeenSteps.{on_err_always}
 use Rattle.cbsrun_runs.proofs.ThrottledTicks.{IsWhole, in_order, whole_if_made, whole_of, throttled_is}
 use Rattle.cbsrun_runs.proofs.load_steps.show_load.Given as given
 use Rattle.cbsrun_runs.proofs.load_steps.show_load.Goals.{After-drop-releases}

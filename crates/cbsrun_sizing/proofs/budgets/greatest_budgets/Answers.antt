@@ -1,5 +1,6 @@
 use Rattle.std.proofs.Common.{◌≡◌, ◌++◌, ◌∷◌, [], rules, refl, sym, ◌∙◌, arith}
 use Rattle.std.proofs.lemmas.Grind.{common_steps}
+use Rattle.std.proofs.lemmas.Result.{err_from_is_err_and}
 use Rattle.cbsrun_sizing.specs.Budgets.{without}
 use Rattle.cbsrun_sizing.proofs.Greatest.{greatest_more, greatest_for}
 use Rattle.cbsrun_sizing.proofs.budgets.greatest_budgets.Goals as goal
@@ -18,3 +19,19 @@ loop-server-init c = grind (arith, common_steps)
 
 pub returns : goal.returns
 returns c = grind (arith, common_steps)
+
+pub returns-in_err-budgets-clause-greatest : goal.returns-in_err-budgets-clause-greatest
+returns-in_err-budgets-clause-greatest c =
+    let p = err_from_is_err_and c.from_residual.result c.from_residual.ensures.1 in
+    rw p.1 tt
+
+pub returns-in_err-push-clause-greatest : goal.returns-in_err-push-clause-greatest
+returns-in_err-push-clause-greatest c =
+    let p = err_from_is_err_and c.from_residual-in_err-push.result c.from_residual-in_err-push.ensures.1 in
+    rw p.1 tt
+
+pub overflow_cast-servers : goal.overflow_cast-servers
+overflow_cast-servers c = grind (arith, common_steps)
+
+pub greatest_budget_at-requires : goal.greatest_budget_at-requires
+greatest_budget_at-requires c = grind (arith, common_steps)

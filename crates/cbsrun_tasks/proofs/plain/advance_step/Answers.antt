@@ -1,7 +1,7 @@
 use Rattle.std.proofs.Common.{suc, ◌≤◌, arith}
 use Rattle.std.proofs.lemmas.Grind.{common_steps}
 use Rattle.cbsrun_tasks.specs.Entries.{longest_advance}
-use Rattle.cbsrun_tasks.specs.Plain.{under}
+use Rattle.cbsrun_toml_plain.specs.Pairs.{under}
 use Rattle.cbsrun_tasks.proofs.PlainSteps.{advance_step}
 use Rattle.cbsrun_tasks.proofs.plain.advance_step.Goals as goal
 

@@ -1,6 +1,6 @@
 use Rattle.std.proofs.Common.{suc, ◌<◌, arith}
 use Rattle.std.proofs.lemmas.Grind.{common_steps}
-use Rattle.cbsrun_tasks.specs.Plain.{under}
+use Rattle.cbsrun_toml_plain.specs.Pairs.{under}
 use Rattle.cbsrun_tasks.proofs.PlainSteps.{close_step}
 use Rattle.cbsrun_tasks.proofs.plain.close_step.Goals as goal
 

@@ -1,6 +1,6 @@
 use Rattle.std.proofs.Common.{suc, ◌<◌, Ok, sym, ◌∙◌, ap, arith}
 use Rattle.std.proofs.lemmas.Grind.{common_steps}
-use Rattle.cbsrun_tasks.specs.Plain.{under}
+use Rattle.cbsrun_toml_plain.specs.Pairs.{under}
 use Rattle.cbsrun_tasks.proofs.PlainSteps.{submit_step}
 use Rattle.cbsrun_tasks.proofs.plain.submit_step.Goals as goal
 

@@ -1,7 +1,7 @@
 use Rattle.std.proofs.Common.{◌≡◌, ◌==◌, true, length, arith}
 use Rattle.std.proofs.lemmas.Grind.{common_steps}
 use Rattle.toml_parser.specs.Lexical.{first}
-use Rattle.cbsrun_tasks.specs.Plain.{under}
+use Rattle.cbsrun_toml_plain.specs.Pairs.{under}
 use Rattle.cbsrun_tasks.proofs.PlainSteps.{units_read}
 use Rattle.cbsrun_tasks.proofs.plain.units_of.Goals as goal
 

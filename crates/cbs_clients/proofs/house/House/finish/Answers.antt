@@ -1,4 +1,5 @@
 use Rattle.std.proofs.Common.{◌≡◌, ◌∙◌, length, refl, ap}
+use Rattle.cbs_recorded.specs.Records.{tape_in}
 use Rattle.cbs_hindsight.proofs.Hindsight.{has_cut}
 use Rattle.cbs_lists.proofs.Lists.{length-changed_at}
 use Rattle.cbs_core.specs.Agreement.{HasHistory, ended}
@@ -10,15 +11,15 @@ pub take_early-requires : goal.take_early-requires
 take_early-requires g c =
     let old = c.args.self.now in
     let j = c.in-Ok.ensures.job in
-    ended_next g.W.Work.meaning old.core c.finish.new.self old.rings old.rings old.collector old.collector old.housed c.in-Ok.done c.args.server j.2 j.0
+    ended_next g.W.Work.meaning old.core c.finish_told.new.core old.rings old.rings old.collector old.collector old.housed c.in-Ok.done c.args.server j.2 j.0
 
 pub invariant_of-self : goal.invariant_of-self
 invariant_of-self g c =
     let work = g.W.Work.meaning in
     let old = c.args.self.now in
-    let new = c.finish.new.self in
+    let new = c.finish_told.new.core in
     let j = c.in-Ok.ensures.job in
-    let same = c.in-Ok.ensures.same in
+    let same = c.in-Ok.ensures.ended in
     let cut = has_cut work g.met.W.Work.lowers in
     let history : HasHistory work new = λ none. old.housed.history (λ M agrees. none (ended work cut.0 c.args.server M) (c.in-Ok.ensures.hindsight cut.0 cut.1 M agrees)) in
     let count : length new.faces ≡ length old.core.faces = ap (λ (x : CoreHeld _). length x.faces) same ∙ length-changed_at with_job_ended old.core.faces c.args.server in
@@ -37,9 +38,10 @@ returns-in-Ok g c =
       hindsight = c.in-Ok.ensures.hindsight;
       job = c.in-Ok.ensures.job;
       collects = (rw (t.handed, t.results, t.early) refl, λ u ne. rw ((others u ne).handed, (others u ne).results, (others u ne).early) refl);
+      loses = c.in-Ok.ensures.loses;
       rings = refl;
-      on_time = c.finish.ensures.on_time;
-      paced = c.finish.ensures.paced;
+      on_time = c.finish_told.ensures.on_time;
+      paced = c.finish_told.ensures.paced;
       same = tt;
       refusal = c.in-Ok.ensures.refusal;
     }
@@ -49,9 +51,10 @@ returns-in-Err g c = record {
   hindsight = tt;
   job = tt;
   collects = tt;
+  loses = tt;
   rings = refl;
-  on_time = c.finish.ensures.on_time;
-  paced = c.finish.ensures.paced;
-  same = record { core = c.in-Err.ensures.unchanged; rings = refl; seats = λ s. refl };
+  on_time = c.finish_told.ensures.on_time;
+  paced = c.finish_told.ensures.paced;
+  same = record { core = c.in-Err.ensures.unchanged; rings = refl; tape = ap tape_in c.in-Err.ensures.same; seats = λ s. refl };
   refusal = (c.in-Err.error, c.in-Err.ensures.refusal, c.of_charge.ensures);
 }

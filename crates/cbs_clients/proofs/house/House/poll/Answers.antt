@@ -2,6 +2,7 @@ use Rattle.cbs_clients.specs.Houses.{core_of}
 use Rattle.std.proofs.Common.{◌<◌, length, refl, ◌∙◌, inr, arith, rules}
 use Rattle.std.proofs.lemmas.List.{nil_from_length}
 use Rattle.cbs_clients.proofs.HouseInvariant.{same_shelf}
+use Rattle.cbs_recorded.proofs.Recorded.{recorded_same}
 use Rattle.cbs_clients.proofs.MadeSteps.{made_nothing, made_room, polled_after, polled_there}
 use Rattle.cbs_clients.proofs.Moves.{polled_on_time}
 use Rattle.cbs_clients.proofs.PacedMoves.{polled_paced}
@@ -18,7 +19,7 @@ returns-then-is_empty g c =
     let none = rw c.from-index.ensures at (c.is_empty.ensures.value.0 c.if-is_empty.true) in
     record {
       polled = (
-        made_room g.W.Work.meaning _ _ c.is_empty.ensures.looked (λ M agrees. agrees) (λ s. same_shelf _),
+        made_room g.W.Work.meaning _ _ c.is_empty.ensures.looked (λ M agrees. agrees) (λ s. same_shelf _) (recorded_same g.W.Work.meaning _ _ _ refl),
         omega arith,
         inr (nil_from_length _ none),
       );
@@ -34,7 +35,7 @@ returns g c =
     let work = g.W.Work.meaning in
     let a = c.args.self.now in
     let t = c.take_seen in
-    let made = made_room work a _ c.is_empty.ensures.looked (λ M agrees. agrees) (λ s. same_shelf _) in
+    let made = made_room work a _ c.is_empty.ensures.looked (λ M agrees. agrees) (λ s. same_shelf _) (recorded_same g.W.Work.meaning _ _ _ refl) in
     let polled = polled_after work a _ t.new.self c.args.server t.result made refl t.ensures.polled in
     let rings = a.housed.ring_count in
     let index = c.from-index.ensures in

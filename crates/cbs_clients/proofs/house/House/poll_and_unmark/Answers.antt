@@ -6,4 +6,4 @@ pub returns-in-Nothing : goal.returns-in-Nothing
 returns-in-Nothing g c =
     let polled = c.poll-poll.new.self in
     poll_same g.W.Work.meaning c.args.self.now polled _ c.args.server c.poll-poll.result c.requires c.poll-poll.ensures
-    (same_by_ends polled _ refl refl c.unmark.ensures)
+    (same_by_ends polled _ refl refl c.unmark.ensures refl)

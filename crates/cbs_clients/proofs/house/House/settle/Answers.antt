@@ -8,7 +8,7 @@ returns-clause-value g c = search rules
 pub returns-clause-looked : goal.returns-clause-looked
 returns-clause-looked g c =
     let looked = c.settle.ensures.looked in
-    record { core = refl; rings = looked.rings; seats = λ s. record { same = rw (looked.received s) refl; known = looked.known s } }
+    record { core = refl; rings = looked.rings; tape = refl; seats = λ s. record { same = rw (looked.received s) refl; known = looked.known s } }
 
 pub returns-clause-lawful : goal.returns-clause-lawful
 returns-clause-lawful g c = sym c.settle.ensures.lawful

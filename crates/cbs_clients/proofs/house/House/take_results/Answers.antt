@@ -30,10 +30,10 @@ pub returns-in-Ok-clause-handed : goal.returns-in-Ok-clause-handed
 returns-in-Ok-clause-handed g c =
     let handed = c.in-Ok.ensures.handed in
     let others = c.take_results.ensures.others.0 in
-    record { core = refl; rings = refl; seat = rw (handed.handed, handed.results, handed.early) refl; others = λ t ne. rw ((others t ne).handed, (others t ne).results, (others t ne).early) refl }
+    record { core = refl; rings = refl; tape = refl; seat = rw (handed.handed, handed.results, handed.early) refl; others = λ t ne. rw ((others t ne).handed, (others t ne).results, (others t ne).early) refl }
 
 pub returns-in-Err-Stranger-clause-unchanged : goal.returns-in-Err-Stranger-clause-unchanged
-returns-in-Err-Stranger-clause-unchanged g c = record { core = refl; rings = refl; seats = λ s. rw c.in-Err-Stranger.ensures.refused refl }
+returns-in-Err-Stranger-clause-unchanged g c = record { core = refl; rings = refl; tape = refl; seats = λ s. rw c.in-Err-Stranger.ensures.refused refl }
 
 pub returns-in-Err-clause-unchanged : goal.returns-in-Err-clause-unchanged
-returns-in-Err-clause-unchanged g c = record { core = refl; rings = refl; seats = λ s. rw c.in-Err.ensures.refused refl }
+returns-in-Err-clause-unchanged g c = record { core = refl; rings = refl; tape = refl; seats = λ s. rw c.in-Err.ensures.refused refl }

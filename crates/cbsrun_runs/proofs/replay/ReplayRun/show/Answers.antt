@@ -4,12 +4,12 @@ use Rattle.cbs_core.specs.Agreement.{Agrees}
 use Rattle.cbs_job.specs.FileJobs.{of_files}
 use Rattle.cbsrun_runs.specs.Tasks.{start_of_tasks}
 use Rattle.cbsrun_runs.proofs.Runs.{saw_none}
-use Rattle.cbsrun_runs.proofs.TaskSteps.{on_err_always, saw_some_of}
-use Rattle.cbsrun_runs.proofs.TaskTurns.{tasks_in_turn}
+use Rattle.cbsrun_runs.proofs.SeenSteps.{on_err_always, saw_some_of}
+use Rattle.cbsrun_runs.proofs.StepTurns.{steps_in_turn}
 use Rattle.cbsrun_runs.proofs.replay.ReplayRun.show.Goals as goal
 
 pub returns-clause-in_order : goal.returns-clause-in_order
-returns-clause-in_order g c = λ s lt. tasks_in_turn s (start_of_tasks c.args.self.now) c.args.self.now.steps [] tt
+returns-clause-in_order g c = λ s lt. steps_in_turn of_files s (start_of_tasks c.args.self.now) c.args.self.now.steps [] tt
 
 pub returns-clause-lawful : goal.returns-clause-lawful
 returns-clause-lawful g c =
@@ -18,7 +18,7 @@ returns-clause-lawful g c =
     rw (← c.self.view_is, ← c.plan.ensures.value, ← c.modes.ensures.value) c.in-Ok.ensures.start in
     let steps : c.replace-steps.result.items ≡ f.steps = rw (← c.self.view_is) (ap (λ v. v.items) c.replace-steps.ensures.value) in
     record {
-      completions = λ s. rw steps at (c.in_ok-show_steps.ensures.completes (start_of_tasks f) agrees s);
+      completions = λ s. rw steps at (c.in_ok-show_steps.ensures.shown.completes (start_of_tasks f) agrees s);
       closes = λ s. steps_close of_files (start_of_tasks f) f.steps s;
       punctual = punctual_after of_files (start_of_tasks f)
           (rw (← c.self.view_is, ← c.plan.ensures.value, ← c.modes.ensures.value) c.in-Ok.ensures.punctual) f.steps;
@@ -33,5 +33,5 @@ returns-in_err-show_steps-clause-stopped g c = on_err_always c.from_residual.res
     let agrees : Agrees of_files c.in-Ok.core (start_of_tasks f) =
     rw (← c.self.view_is, ← c.plan.ensures.value, ← c.modes.ensures.value) c.in-Ok.ensures.start in
     let steps : c.replace-steps.result.items ≡ f.steps = rw (← c.self.view_is) (ap (λ v. v.items) c.replace-steps.ensures.value) in
-    rw steps at (saw_some_of g.V.View.saw g.V.View.failed (start_of_tasks f) c.replace-steps.result.items _ first _ _
+    rw steps at (saw_some_of of_files g.V.View.saw g.V.View.failed (start_of_tasks f) c.replace-steps.result.items _ first _ _
     (c.in_err-show_steps.ensures.stopped (start_of_tasks f) agrees) was))

@@ -1,4 +1,4 @@
-use Rattle.cbsrun_runs.proofs.TaskSteps.{on_err_always}
+use Rattle.cbsrun_runs.proofs.SeenSteps.{on_err_always}
 use Rattle.cbsrun_runs.proofs.simulated.LoadRun.show.Goals as goal
 
 pub returns-clause-lawful : goal.returns-clause-lawful

@@ -1,4 +1,4 @@
-use Rattle.cbsrun_runs.proofs.TaskSteps.{on_err_always}
+use Rattle.cbsrun_runs.proofs.SeenSteps.{on_err_always}
 use Rattle.cbsrun_runs.proofs.simulated.SeededLoadRun.show.Goals as goal
 
 pub returns-in_err-show_load-clause-stopped : goal.returns-in_err-show_load-clause-stopped

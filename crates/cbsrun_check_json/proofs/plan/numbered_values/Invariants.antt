@@ -1,8 +1,0 @@
-use Rattle.std.proofs.Common.{◌≡◌, map}
-use Rattle.std.specs.List.{range_with_len}
-use Rattle.serde_json.specs.View.{view}
-use Rattle.cbsrun_check_json.specs.Json.{numbered_at}
-use Rattle.cbsrun_check_json.proofs.plan.numbered_values.Given as goal
-
-abbrev pub invariant-loop-server : goal.invariant-loop-server
-invariant-loop-server l = map view l.values.items ≡ map (numbered_at l.modes l.plan l.budgets) (range_with_len 0 l.server)

@@ -1,0 +1,13 @@
+//! Records: named servers with their plan and modes, and the steps that were made on them. They are read from the bytes
+//! of a TOML document.
+#![tactic(auto)]
+
+mod entries;
+mod file;
+mod kind;
+mod record;
+mod top;
+
+pub use file::{read_record, read_record_within, record_in};
+pub use kind::is_record;
+pub use record::Record;

@@ -1,9 +1,0 @@
-use Rattle.std.proofs.Common.{ap, sym, ◌∙◌}
-use Rattle.cbsrun_tasks.specs.Plain.{begins_trivia}
-use Rattle.cbsrun_tasks.proofs.Blanks.{blank_none}
-use Rattle.cbsrun_tasks.proofs.plain.after_trivia.Goals as goal
-
-pub returns-else-begins_trivia-clause-rest : goal.returns-else-begins_trivia-clause-rest
-returns-else-begins_trivia-clause-rest c =
-    let none = ap begins_trivia (sym c.first.ensures) ∙ sym c.begins_trivia.ensures ∙ c.if-begins_trivia.false in
-    sym (blank_none c.after_space-rest.result.now none) ∙ c.after_space-rest.ensures.blank

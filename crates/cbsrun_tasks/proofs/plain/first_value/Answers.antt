@@ -1,7 +1,0 @@
-use Rattle.cbsrun_tasks.proofs.plain.first_value.Goals as goal
-
-pub returns-in-Inline : goal.returns-in-Inline
-returns-in-Inline c = rw c.in-Inline.is c.first_inline.ensures
-
-pub returns-in-Lines : goal.returns-in-Lines
-returns-in-Lines c = rw c.in-Lines.is c.first_line.ensures
