@@ -39,8 +39,8 @@ _cbsrun() {
         yes--as)
             case $command in
                 check) _cbsrun_words report json ;;
-                simulate) _cbsrun_words report json text svg trace lines csv ;;
-                *) _cbsrun_words lines report json text svg trace ;;
+                simulate) _cbsrun_words report json text svg trace lines csv record tape ;;
+                *) _cbsrun_words lines report json text svg trace record tape ;;
             esac
             return
             ;;

@@ -12,7 +12,8 @@
 // WHAT IS WHAT. A Plan has servers that fit together. A Plan opens a House, for the serving thread,
 // and a Client for each server, for the threads that send. A Job is a callable: the serving thread
 // calls the job once for each of the job's units. A plain token is a number in the place of a job.
-// A Realtime serves a house in real time. A Live reads figures of the servers meanwhile.
+// A Realtime serves a house in real time. A Live reads figures of the servers meanwhile. A Recorder
+// writes what the house did to a file.
 //
 // WHO OWNS WHAT. Houses, clients and jobs are moved and never copied, and free themselves. A client
 // that is freed ends. Every send, every end and every client that is freed wakes the house. A house
@@ -52,6 +53,7 @@
 #include <optional>
 #include <stdexcept>
 #include <string>
+#include <system_error>
 #include <type_traits>
 #include <utility>
 #include <vector>
@@ -63,6 +65,7 @@ class House;
 class Live;
 class Plan;
 class Realtime;
+class Recorder;
 
 // ---- Errors ----
 
@@ -729,6 +732,7 @@ public:
             shared = std::move(other.shared);
             served = std::move(other.served);
             kept = std::move(other.kept);
+            tape_size = other.tape_size;
         }
         return *this;
     }
@@ -870,6 +874,54 @@ public:
         served[server].current.reset();
     }
 
+    // Tells each step of the house from now on to a new tape: each job that is taken, with its
+    // number of units, each unit, each advance and charge of a tick or more, and each close. The
+    // tape has `bytes` and 31 more bytes of memory, and no other call takes memory for it. A tape
+    // that the house had is freed, with what was not taken.
+    //
+    // A step that finds no room is lost, with all that follow, and the tape keeps those before it.
+    // A job that ends early (Unit::finish, finish) is lost so, too: no tape can tell it.
+    // Throws Error with CBS_HOUSE_OUT_OF_MEMORY: the house is then as before.
+    void record(std::uint32_t bytes) {
+        detail::must(cbs_tape_open(handle.get(), bytes));
+        tape_size = static_cast<std::size_t>(bytes) + 31;
+    }
+
+    // Appends what the tape has so far to `out`. The tape then has all its memory again, and is
+    // told the steps to come. What these calls append tells the steps in order.
+    // Throws Error with CBS_CALL_NO_TAPE if there is no tape; `out` is then as before.
+    void take_tape(std::vector<std::uint8_t> &out) {
+        const std::size_t before = out.size();
+        std::size_t taken = 0;
+        out.resize(before + tape_size);
+        const std::uint32_t status =
+            cbs_tape_take(handle.get(), out.data() + before, tape_size, &taken);
+        out.resize(before + taken);
+        detail::must(status);
+    }
+
+    // Returns whether the tape lost a step, so that it has only those before.
+    // Throws Error with CBS_CALL_NO_TAPE if there is no tape.
+    bool tape_lost() const {
+        bool lost = false;
+        detail::must(cbs_tape_lost(handle.get(), &lost));
+        return lost;
+    }
+
+    // Appends the rest of the tape to `out`, and the mark of its end, unless it lost a step. The
+    // house goes on with no tape.
+    // Throws Error with CBS_CALL_NO_TAPE if there is no tape; `out` is then as before.
+    void end_tape(std::vector<std::uint8_t> &out) {
+        const bool lost = tape_lost();
+        out.reserve(out.size() + tape_size + 1);
+        take_tape(out);
+        if (!lost) {
+            out.push_back(CBS_TAPE_END);
+        }
+        tape_size = 0;
+        detail::must(cbs_tape_close(handle.get()));
+    }
+
     // Has the figures of each server kept from now on, as the house runs in real time: by Realtime,
     // or by next and done. names[i] is the name of server i; an empty one, or none, is the server's
     // number. A job that was accepted before counts from the first question on.
@@ -951,6 +1003,7 @@ public:
 private:
     friend Plan;
     friend Realtime;
+    friend Recorder;
 
     // The jobs of one server, as this header sees them.
     struct Served {
@@ -1083,6 +1136,7 @@ private:
     std::vector<Served> served;
     std::shared_ptr<detail::Shared> shared;
     std::shared_ptr<detail::Kept> kept; // none if no figures are kept
+    std::size_t tape_size = 0;          // the bytes of memory of the tape
     mutable detail::Handle handle;
 };
 
@@ -1149,6 +1203,76 @@ public:
 private:
     std::array<cbs_server, 65> servers{}; // one more than fit, to have that one refused
     std::size_t count = 0;
+};
+
+// ---- Recording: by the serving thread ----
+
+// What is told of a house beside its steps, and how the steps are written.
+struct RecordSettings {
+    // names[i] is the name of server i: 1 to 32 letters, digits, - and _, which no other server
+    // has. A server with none is called server-I, by its number.
+    std::vector<std::string> names;
+    std::chrono::nanoseconds tick{0}; // how long a tick is, at most a second; 0: not told
+    std::uint32_t bytes = 65536;      // so many the steps between two writes may take
+    std::uint64_t every = 0;          // so many ticks pass at least between two writes
+};
+
+// Writes the steps of a house to a file, which `cbsrun replay FILE` makes again. Make it before the
+// house's first step. It refers to the house, which is not moved meanwhile. An error of the file
+// ends the recording, and never the house.
+class Recorder {
+public:
+    // Opens the file, which is written anew, and has the house tell its steps.
+    // Throws std::system_error with the error number: EINVAL for a wrong name or tick, and if the
+    // house is not open or made a step before; ENOMEM, or that of the file.
+    Recorder(House &house, const std::string &path, const RecordSettings &settings = {})
+        : served(house) {
+        const std::shared_ptr<detail::Shared> shared = house.shared;
+        std::vector<const char *> names;
+        int error = EINVAL;
+        if (shared && settings.tick.count() >= 0) {
+            for (std::size_t server = 0; server < shared->rates.size(); server++) {
+                const bool named = server < settings.names.size();
+                names.push_back(named ? settings.names[server].c_str() : nullptr);
+            }
+            error = cbs_record_open(&own, served.handle.get(), path.c_str(), shared->rates.data(),
+                                    shared->rates.size(), shared->backlog, names.data(),
+                                    static_cast<std::uint64_t>(settings.tick.count()),
+                                    settings.bytes);
+        }
+        if (error != 0) {
+            throw std::system_error(error, std::generic_category(), path);
+        }
+        own.every = settings.every;
+    }
+    Recorder(const Recorder &) = delete;
+    Recorder &operator=(const Recorder &) = delete;
+    ~Recorder() { close(); }
+
+    // Writes the steps that the house made since the last write, if `every` ticks have passed.
+    // Realtime does it, if it has this recorder.
+    void step() noexcept { cbs_record_step(&own, served.handle.get()); }
+
+    // Writes the last steps, and the mark of the end, unless a step was lost. The house goes on
+    // with no tape.
+    //
+    // Returns what ended the recording, now or before; no error if nothing did.
+    std::error_code close() noexcept {
+        cbs_record_close(&own, served.handle.get());
+        return error();
+    }
+
+    // Returns what ended the recording; no error if nothing did.
+    std::error_code error() const noexcept { return {own.error, std::generic_category()}; }
+
+    // Returns how many bytes of steps are in the file.
+    std::uint64_t bytes() const noexcept { return own.bytes; }
+
+private:
+    friend Realtime;
+
+    House &served;
+    cbs_recorder own{};
 };
 
 // ---- Real time: by the serving thread ----
@@ -1223,6 +1347,9 @@ public:
         own.live = served.figures();
         detail::must(cbs_realtime_done(&own, served.handle.get()));
     }
+
+    // Has each step written by this recorder, of the same house. It outlives the last step.
+    void record_to(Recorder &recorder) noexcept { own.recorder = &recorder.own; }
 
     // Returns how many messages the last step took from the rings, ends included.
     std::size_t taken() const noexcept { return own_taken; }

@@ -23,6 +23,7 @@
 #define _POSIX_C_SOURCE 200809L
 #endif
 #include "cbs.h"
+#include "cbs_record.h"
 #include <errno.h>
 #include <inttypes.h>
 #include <pthread.h>
@@ -415,6 +416,7 @@ struct cbs_realtime {
      * for that. */
     bool processor_time;
     struct cbs_live *live;    /* where figures are kept, for any thread to read; NULL for none */
+    struct cbs_recorder *recorder; /* where the steps go: see cbs_record.h; NULL for none */
     struct cbs_counts counts; /* for the serving thread to read at any time */
     bool over;                /* whether every server is closed and every job is finished */
     /* The header's own: */
@@ -423,8 +425,8 @@ struct cbs_realtime {
     struct cbs_pacer pacer;
 };
 
-/* Returns a house in real time that has not begun. Its carry and its processor_time are false, and
- * no figures are kept. */
+/* Returns a house in real time that has not begun. Its carry and its processor_time are false, no
+ * figures are kept, and nothing is recorded. */
 static inline struct cbs_realtime cbs_realtime_of(
     uint64_t tick, struct cbs_bell *bell,
     void (*work)(void *context, const struct cbs_unit *unit), void *context) {
@@ -462,6 +464,9 @@ static inline uint32_t cbs_realtime_ask(struct cbs_realtime *self, struct cbs_ha
     if (status == CBS_OK && self->live != NULL) {
         cbs_live_asked(self->live, house, &self->pacer, now, next);
     }
+    if (self->recorder != NULL) {
+        cbs_record_step(self->recorder, house);
+    }
     return status;
 }
 
@@ -474,6 +479,9 @@ static inline uint32_t cbs_realtime_done(struct cbs_realtime *self, struct cbs_h
     cbs_counts(&self->pacer, &self->counts);
     if (self->live != NULL) {
         cbs_live_done(self->live, &self->pacer, now);
+    }
+    if (self->recorder != NULL) {
+        cbs_record_step(self->recorder, house);
     }
     return status;
 }

@@ -23,11 +23,13 @@
 /* Those up to JOB are timed. */
 enum {
     NOW, RUN_IDLE, RUN_UNIT, TURN_UNIT, POLL_NOTHING, IDLE_SPAN, NEXT_IDLE, NEXT_UNIT, JOB,
-    TURN_IDLE, CASES
+    TURN_IDLE, RUN_TAPED, JOB_TAPED, CASES
 };
 static const char *const names[CASES] = {"now", "run, idle", "run, a unit", "turn, a unit", "poll, nothing", "idle_span",
                                          "next, nobody ready", "next, a unit",
-                                         "send, poll and run a job of one unit", "turn, idle"};
+                                         "send, poll and run a job of one unit", "turn, idle",
+                                         "run, a unit, with a tape",
+                                         "send, poll and run a job of one unit, with a tape"};
 
 struct bench {
     struct cbs_handle house;
@@ -53,6 +55,7 @@ static void call(struct bench *bench, int which, uint16_t server, uint64_t numbe
     switch (which) {
     case NOW: MUST(cbs_now(&bench->house, &out) == CBS_OK); break;
     case RUN_IDLE: MUST(cbs_run(&bench->house, &unit) == CBS_OK && unit.kind == CBS_RUN_IDLE); break;
+    case RUN_TAPED:
     case RUN_UNIT: MUST(cbs_run(&bench->house, &unit) == CBS_OK && unit.kind == CBS_RUN_UNIT); break;
     case TURN_IDLE: MUST(cbs_turn(&bench->house, &turn) == CBS_OK && turn.ran.kind == CBS_RUN_IDLE); break;
     case TURN_UNIT: MUST(cbs_turn(&bench->house, &turn) == CBS_OK && turn.ran.kind == CBS_RUN_UNIT); break;
@@ -147,8 +150,11 @@ static void one_case(const char *name, size_t n, uint64_t count) {
         MUST(which < CASES);
     }
     open_house(&bench, n);
-    if (which == RUN_UNIT || which == TURN_UNIT || which == NEXT_UNIT) {
+    if (which == RUN_UNIT || which == TURN_UNIT || which == NEXT_UNIT || which == RUN_TAPED) {
         load(&bench);
+    }
+    if (which == RUN_TAPED || which == JOB_TAPED) {
+        MUST(cbs_tape_open(&bench.house, 1 << 24) == CBS_OK); /* more than the calls tell */
     }
     calls(&bench, which, count);
     free_house(&bench);

@@ -3,6 +3,7 @@
  * stands in the place of heap.c. */
 #include "check.h"
 #include <malloc.h>
+#include <string.h>
 
 #ifdef __cplusplus
 extern "C" {
@@ -171,6 +172,43 @@ static void paces(void) {
     CHECK(live == 0);
 }
 
+/* A tape for which there is no memory changes nothing, and takes none after its beginning. */
+static void records(void) {
+    static const uint8_t steps[] = {0x41, 0x01, 0xC0, 0x02, 0x05, CBS_TAPE_END};
+    struct setup setup;
+    uint8_t bytes[132];
+    size_t length;
+    uint64_t seq;
+    bool lost;
+    refuse(-1, false);
+    set_up(&setup, servers, SERVERS, 4, 4);
+    CHECK(cbs_send(&setup.clients[1], 7, 1, &seq) == CBS_OK);
+    long before = live, refusals = 0;
+    for (;; refusals++) {
+        refuse(refusals, false);
+        if (cbs_tape_open(&setup.house, 100) == CBS_OK) {
+            break;
+        }
+        CHECK(cbs_tape_lost(&setup.house, &lost) == CBS_CALL_NO_TAPE && live == before);
+    }
+    CHECK(refusals == 2 && live == before + 2); /* the box and the bytes of the tape */
+    refuse(0, false);
+    CHECK(cbs_tape_open(&setup.house, 100) == CBS_HOUSE_OUT_OF_MEMORY);
+    CHECK(cbs_tape_lost(&setup.house, &lost) == CBS_OK && !lost && live == before + 2); /* the tape of before */
+    refuse(-1, false);
+    uint32_t kind = 99;
+    CHECK(cbs_poll(&setup.house, 1, &kind) == CBS_OK && kind == CBS_POLL_TOOK);
+    refuse(0, true);
+    runs(&setup, CBS_RUN_DONE, 1, seq, 7);
+    CHECK(cbs_advance(&setup.house, 5) == CBS_OK);
+    CHECK(cbs_tape_take(&setup.house, bytes, 131, &length) == CBS_OK && length == 5);
+    bytes[length] = CBS_TAPE_END;
+    CHECK(memcmp(bytes, steps, sizeof steps) == 0);
+    CHECK(cbs_tape_close(&setup.house) == CBS_OK && asked == 0);
+    tear_down(&setup);
+    CHECK(live == 0);
+}
+
 /* Serves so many jobs of one unit of each server. */
 static void serves(struct setup *setup, long jobs) {
     for (long job = 0; job < jobs; job++) {
@@ -221,6 +259,7 @@ int main(void) {
         }
     }
     paces();
+    records();
     serves_for_long();
     printf("allocations, each refused in turn: %ld of cbs_open, %ld of cbs_poll, %ld of cbs_turn\n", in_open, in_poll, in_turn);
     return 0;

@@ -5,17 +5,22 @@
 #include <array>
 #include <atomic>
 #include <chrono>
+#include <cstdio>
 #include <cstdlib>
+#include <fstream>
 #include <functional>
 #include <future>
+#include <iterator>
 #include <memory>
 #include <optional>
 #include <stdexcept>
 #include <string>
+#include <system_error>
 #include <thread>
 #include <type_traits>
 #include <utility>
 #include <vector>
+#include <unistd.h>
 
 using namespace std::chrono_literals;
 
@@ -617,8 +622,86 @@ static void ends_early() {
     CHECK(status == CBS_HOUSE_NOT_RUNNING);
 }
 
+// A tape: its bytes by hand, in pieces; what it loses; and no memory for it.
+static void tapes() {
+    cbs::Plan plan;
+    plan.admit(2, 5, cbs::Mode::Soft);
+    plan.admit(2, 5, cbs::Mode::Throttled);
+    auto [house, clients] = plan.open(4, 4);
+    std::vector<std::uint8_t> tape;
+    throws(CBS_CALL_NO_TAPE, [&, &open = house] { open.take_tape(tape); });
+    throws(CBS_CALL_NO_TAPE, [&open = house] { open.tape_lost(); });
+    throws(CBS_CALL_NO_TAPE, [&, &open = house] { open.end_tape(tape); });
+    granted = 0;
+    throws(CBS_HOUSE_OUT_OF_MEMORY, [&open = house] { open.record(100); });
+    granted = -1;
+    CHECK(tape.empty());
+    house.record(100);
+    CHECK(clients[0].send(7, 3) == cbs::Send::Sent && clients[1].send(8, 4) == cbs::Send::Sent);
+    house.turn();
+    house.charge(0, 2);
+    house.take_tape(tape);
+    CHECK((tape == std::vector<std::uint8_t>{0x40, 3, 0x41, 4, 0xC0, 0x80, 2}));
+    cbs::House moved = std::move(house); // the tape goes with it
+    moved.advance(5);
+    CHECK(!moved.tape_lost());
+    moved.end_tape(tape);
+    CHECK((tape == std::vector<std::uint8_t>{0x40, 3, 0x41, 4, 0xC0, 0x80, 2, 2, 5, 4}));
+    throws(CBS_CALL_NO_TAPE, [&] { moved.tape_lost(); });
+    // 31 bytes have room for one entry.
+    moved.record(0);
+    moved.advance(7);
+    moved.advance(7);
+    CHECK(moved.tape_lost());
+    tape.clear();
+    moved.end_tape(tape);
+    CHECK((tape == std::vector<std::uint8_t>{2, 7})); // no mark
+}
+
+// The file of a recorder, which a loop in real time writes to as well; and files that there are not.
+static void recorders() {
+    const std::string path = "/tmp/cbs-wrapper-" + std::to_string(getpid());
+    cbs::Plan plan;
+    plan.admit(2, 5, cbs::Mode::Soft);
+    auto [house, clients] = plan.open(4, 4);
+    for (const cbs::RecordSettings &wrong : {cbs::RecordSettings{{"a b"}, 0ns}, cbs::RecordSettings{{}, 2s}}) {
+        bool thrown = false;
+        try {
+            cbs::Recorder none(house, path, wrong);
+        } catch (const std::system_error &error) {
+            thrown = error.code() == std::errc::invalid_argument;
+        }
+        CHECK(thrown);
+    }
+    bool thrown = false;
+    try {
+        cbs::Recorder none(house, "no/such/folder");
+    } catch (const std::system_error &error) {
+        thrown = error.code() == std::errc::no_such_file_or_directory;
+    }
+    CHECK(thrown);
+    throws(CBS_CALL_NO_TAPE, [&open = house] { open.tape_lost(); });
+    cbs::Recorder recorder(house, path, {{"laundry"}, 1us});
+    CHECK(clients[0].send(7, 3) == cbs::Send::Sent && house.turn().took == 1);
+    recorder.step();
+    CHECK(recorder.bytes() == 3 && !recorder.error());
+    clients.clear();
+    cbs::Realtime realtime(house, 1us);
+    realtime.record_to(recorder);
+    CHECK(realtime.run() == cbs::Ended::Closed && recorder.bytes() >= 6); // two units, and the end
+    CHECK(!recorder.close() && !recorder.close());
+    std::ifstream file(path, std::ios::binary);
+    const std::string written((std::istreambuf_iterator<char>(file)), std::istreambuf_iterator<char>());
+    const std::string head = "record = 1\ntick = \"1000 ns\"\nbound = [1, 1]\nbacklog = 4\nserver = [\n"
+                             "  { name = \"laundry\", mode = \"soft\", budget = 2, period = 5 },\n]\n";
+    CHECK(written.substr(0, head.size() + 4) == head + std::string("\0\x40\x03\xC0", 4) && written.back() == 4);
+    std::remove(path.c_str());
+}
+
 int main() {
     ends_early();
+    tapes();
+    recorders();
     figures();
     figures_of_a_loop();
     plans();

@@ -7,11 +7,14 @@
 //! Checked, with status 1 if it does not hold: each job is done once and in order, and each deadline pays for what its server
 //! took, charges too. Printed only, since the host may take its processor away: how long a job took from its send to its end.
 //!
-//! `cargo run --release --example robot [SECONDS]`: 2 if no number is given.
+//! `cargo run --release --example robot [SECONDS [FILE]]`: 2 if no number is given. With a FILE, the run is recorded: `cbsrun replay
+//! FILE` makes its steps again.
 
 use cbs::realtime::Realtime;
+use cbs::record::Settings;
 use cbs::{Client, House, Mode, Plan, SendError, Unit};
 use std::error::Error;
+use std::fs::File;
 use std::thread::{self, JoinHandle};
 use std::time::{Duration, Instant};
 
@@ -132,7 +135,17 @@ fn main() -> Result<(), Box<dyn Error>> {
     let picture: Vec<u8> = (0..640 * 480_u32).map(|at| (at * 7 % 251) as u8).collect();
     let mut robot = Robot::default();
     let mut realtime = Realtime::new(&mut house, TICK);
+    if let Some(path) = std::env::args().nth(2) {
+        let names = SERVERS.map(|(name, ..)| name.to_owned()).to_vec();
+        let settings = Settings {
+            names,
+            every: 40, // 10 ms
+            ..Settings::default()
+        };
+        realtime.record(File::create(path)?, &settings)?;
+    }
     realtime.run(|unit| robot.work(unit, &picture))?;
+    realtime.end_record()?;
     println!("{:?}", realtime.counts());
     for (server, sender) in senders.into_iter().enumerate() {
         let sent = sender.join().expect("the sender does not panic");

@@ -608,6 +608,23 @@ impl<T> House<T> {
         ffi::tape_close(&mut self.handle).map_err(TapeError::of)
     }
 
+    /// Returns the reservations of the servers.
+    pub(crate) fn rates(&self) -> &[Server] {
+        &self.rates
+    }
+
+    /// Returns how many jobs that are not finished a server has at most.
+    pub(crate) fn backlog(&self) -> usize {
+        self.backlog
+    }
+
+    /// Goes on with no tape, and drops the one that it had.
+    pub(crate) fn forget_tape(&mut self) {
+        self.tape = 0;
+        // It refuses only if there is none.
+        let _ = ffi::tape_close(&mut self.handle);
+    }
+
     /// Returns what a server was charged.
     ///
     /// # Errors

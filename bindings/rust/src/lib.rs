@@ -58,6 +58,7 @@ pub mod live;
 mod pacer;
 mod plan;
 pub mod realtime;
+pub mod record;
 mod tokens;
 mod unit;
 

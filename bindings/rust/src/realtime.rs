@@ -22,7 +22,9 @@ use crate::error::RunError;
 use crate::house::{Ended, House};
 use crate::job::Job;
 pub use crate::pacer::{Counts, Next, Pacer, Rounding};
+use crate::record::{Recorder, Settings};
 use crate::unit::Unit;
+use std::io::{self, Write};
 use std::mem;
 use std::thread;
 use std::time::{Duration, Instant};
@@ -94,6 +96,8 @@ pub struct Realtime<'h, T, C = Monotonic> {
     pacer: Pacer,
     /// What [`Clock::worked`] returned last.
     worked: Option<Duration>,
+    /// Where the steps go.
+    recorder: Option<Recorder>,
 }
 
 impl<'h, T> Realtime<'h, T> {
@@ -113,6 +117,45 @@ impl<'h, T, C: Clock> Realtime<'h, T, C> {
             clock,
             tick,
             worked: None,
+            recorder: None,
+        }
+    }
+
+    /// Records the house from now on, and writes its steps at each [`step`](Realtime::step). Call this before the first one. If
+    /// `settings` have no tick, this one is told.
+    ///
+    /// # Errors
+    ///
+    /// As [`Recorder::new`].
+    pub fn record(
+        &mut self,
+        to: impl Write + Send + 'static,
+        settings: &Settings,
+    ) -> io::Result<()> {
+        let tick = settings.tick.or(Some(self.tick));
+        let settings = Settings {
+            tick,
+            ..settings.clone()
+        };
+        self.recorder = Some(Recorder::new(self.house, to, &settings)?);
+        Ok(())
+    }
+
+    /// Returns what records the house, if something does.
+    #[must_use]
+    pub fn recorder(&self) -> Option<&Recorder> {
+        self.recorder.as_ref()
+    }
+
+    /// Ends the recording, if there is one: writes the last steps, and the mark of the end.
+    ///
+    /// # Errors
+    ///
+    /// What the writer gave, now or before.
+    pub fn end_record(&mut self) -> io::Result<()> {
+        match self.recorder.take() {
+            Some(recorder) => recorder.end(self.house),
+            None => Ok(()),
         }
     }
 
@@ -199,6 +242,7 @@ impl<'h, T, C: Clock> Realtime<'h, T, C> {
             self.done();
             return Ok(Some(Ended::Stopped));
         }
+        self.write_steps();
         let (now, took) = (self.clock.now(), self.took());
         let ends = EndsByPanic(self);
         let Realtime {
@@ -224,6 +268,14 @@ impl<'h, T, C: Clock> Realtime<'h, T, C> {
     pub fn done(&mut self) {
         let (now, took) = (self.clock.now(), self.took());
         self.house.end(&mut self.pacer, now, took);
+        self.write_steps();
+    }
+
+    /// Writes the steps that the house made, if it is recorded.
+    fn write_steps(&mut self) {
+        if let Some(recorder) = &mut self.recorder {
+            recorder.step(self.house);
+        }
     }
 
     /// Returns how much the thread has worked since this was called last, if its clock tells.

@@ -1,6 +1,11 @@
-//! Houses whose steps are told to a tape: the bytes by hand, in pieces, and what is lost.
+//! Houses whose steps are told to a tape, or written to a file: the bytes by hand, in pieces, what is lost, and writers that fail.
 
-use cbs::{Client, House, Mode, Plan, Poll, Ran, TapeError};
+use cbs::realtime::{Clock, Realtime};
+use cbs::record::{Recorder, Settings};
+use cbs::{Bell, Client, Ended, House, Mode, Plan, Poll, Ran, TapeError};
+use std::io::{self, ErrorKind, Write};
+use std::sync::{Arc, Mutex};
+use std::time::Duration;
 
 /// A house of a soft and a throttled server with 2 ticks in every 5 each.
 fn open() -> (House, Vec<Client>) {
@@ -69,4 +74,249 @@ fn what_is_lost_is_told() {
     house.advance(7).unwrap();
     house.end_tape(&mut tape).unwrap();
     assert_eq!(tape, [9, 0x40, 3, 0xC0, 2, 7]);
+}
+
+/// The system's number for a disk with no room, ENOSPC.
+const FULL: i32 = 28;
+
+/// A writer into a place that the test keeps, with room for so many bytes.
+#[derive(Clone)]
+struct Kept {
+    bytes: Arc<Mutex<Vec<u8>>>,
+    room: usize,
+}
+
+impl Kept {
+    fn with_room(room: usize) -> Kept {
+        let bytes = Arc::default();
+        Kept { bytes, room }
+    }
+
+    fn bytes(&self) -> Vec<u8> {
+        self.bytes.lock().unwrap().clone()
+    }
+}
+
+impl Write for Kept {
+    fn write(&mut self, more: &[u8]) -> io::Result<usize> {
+        let mut bytes = self.bytes.lock().unwrap();
+        let n = more.len().min(self.room - bytes.len());
+        bytes.extend(&more[..n]);
+        match n {
+            0 => Err(io::Error::from_raw_os_error(FULL)),
+            n => Ok(n),
+        }
+    }
+
+    fn flush(&mut self) -> io::Result<()> {
+        Ok(())
+    }
+}
+
+const HEAD: &str = "record = 1
+tick = \"1500 ns\"
+bound = [1, 1]
+backlog = 4
+server = [
+  { name = \"control\", mode = \"soft\", budget = 2, period = 5 },
+  { name = \"server-1\", mode = \"throttled\", budget = 2, period = 5 },
+]
+\0";
+
+fn settings() -> Settings {
+    Settings {
+        names: vec!["control".into()],
+        tick: Some(Duration::from_nanos(1500)),
+        bytes: 100,
+        every: 0,
+    }
+}
+
+#[test]
+fn a_file_has_what_the_house_is_and_each_step() {
+    let (mut house, mut clients) = open();
+    let kept = Kept::with_room(1000);
+    let mut recorder = Recorder::new(&mut house, kept.clone(), &settings()).unwrap();
+    assert_eq!(kept.bytes(), HEAD.as_bytes());
+    submit(&mut house, &mut clients[0], 0, 3);
+    runs(&mut house, 0);
+    recorder.step(&mut house);
+    recorder.step(&mut house);
+    assert_eq!(kept.bytes()[HEAD.len()..], [0x40, 3, 0xC0]);
+    house.advance(300).unwrap();
+    assert_eq!(recorder.bytes(), 3);
+    assert!(recorder.error().is_none());
+    recorder.end(&mut house).unwrap();
+    assert_eq!(
+        kept.bytes()[HEAD.len()..],
+        [0x40, 3, 0xC0, 2, 253, 0x2C, 1, 4]
+    );
+    assert_eq!(house.tape_lost(), Err(TapeError::NoTape));
+}
+
+#[test]
+fn nothing_is_written_before_so_many_ticks() {
+    let (mut house, _clients) = open();
+    let kept = Kept::with_room(1000);
+    let seldom = Settings {
+        every: 10,
+        ..settings()
+    };
+    let mut recorder = Recorder::new(&mut house, kept.clone(), &seldom).unwrap();
+    house.advance(7).unwrap();
+    recorder.step(&mut house); // the first call writes
+    assert_eq!(recorder.bytes(), 2);
+    house.advance(3).unwrap();
+    recorder.step(&mut house); // 3 ticks later
+    assert_eq!(recorder.bytes(), 2);
+    house.advance(9).unwrap();
+    recorder.step(&mut house); // 12 ticks later
+    assert_eq!(recorder.bytes(), 6);
+    recorder.end(&mut house).unwrap();
+    assert_eq!(kept.bytes()[HEAD.len()..], [2, 7, 2, 3, 2, 9, 4]);
+}
+
+#[test]
+fn a_step_that_was_lost_leaves_no_mark() {
+    let (mut house, _clients) = open();
+    let kept = Kept::with_room(1000);
+    let small = Settings {
+        bytes: 0,
+        ..settings()
+    };
+    let recorder = Recorder::new(&mut house, kept.clone(), &small).unwrap();
+    house.advance(7).unwrap();
+    house.advance(7).unwrap();
+    recorder.end(&mut house).unwrap();
+    assert_eq!(kept.bytes()[HEAD.len()..], [2, 7]);
+}
+
+#[test]
+fn an_error_of_the_writer_ends_the_recording_alone() {
+    let (mut house, mut clients) = open();
+    let none = Recorder::new(&mut house, Kept::with_room(HEAD.len() - 1), &settings());
+    assert_eq!(none.unwrap_err().raw_os_error(), Some(FULL));
+    assert_eq!(house.tape_lost(), Err(TapeError::NoTape));
+    let kept = Kept::with_room(HEAD.len() + 2);
+    let mut recorder = Recorder::new(&mut house, kept.clone(), &settings()).unwrap();
+    submit(&mut house, &mut clients[0], 0, 3);
+    recorder.step(&mut house);
+    assert!(recorder.error().is_none());
+    runs(&mut house, 0);
+    recorder.step(&mut house);
+    assert_eq!(recorder.error().unwrap().raw_os_error(), Some(FULL));
+    assert_eq!(house.tape_lost(), Err(TapeError::NoTape));
+    runs(&mut house, 0); // the house goes on
+    recorder.step(&mut house);
+    assert_eq!(recorder.bytes(), 2);
+    assert_eq!(
+        recorder.end(&mut house).unwrap_err().raw_os_error(),
+        Some(FULL)
+    );
+    assert_eq!(kept.bytes()[HEAD.len()..], [0x40, 3]);
+}
+
+#[test]
+fn wrong_names_and_ticks_are_refused() {
+    let (mut house, _clients) = open();
+    let long = "a".repeat(33);
+    for names in [
+        ["a", "a"],
+        ["a", ""],
+        ["a b", "c"],
+        [&long, "c"],
+        ["server-1", "server-1"],
+    ] {
+        let settings = Settings {
+            names: names.map(String::from).into(),
+            ..settings()
+        };
+        let none = Recorder::new(&mut house, Kept::with_room(0), &settings);
+        assert_eq!(
+            none.unwrap_err().kind(),
+            ErrorKind::InvalidInput,
+            "{names:?}"
+        );
+    }
+    for tick in [Duration::ZERO, Duration::from_nanos(1_000_000_001)] {
+        let settings = Settings {
+            tick: Some(tick),
+            ..settings()
+        };
+        let none = Recorder::new(&mut house, Kept::with_room(0), &settings);
+        assert_eq!(
+            none.unwrap_err().kind(),
+            ErrorKind::InvalidInput,
+            "{tick:?}"
+        );
+    }
+    assert_eq!(house.tape_lost(), Err(TapeError::NoTape));
+}
+
+#[test]
+fn a_house_that_made_a_step_is_refused() {
+    let steps: [fn(&mut House, &mut Vec<Client>); 3] = [
+        |house, clients| submit(house, &mut clients[1], 1, 3),
+        |house, _clients| house.advance(1).unwrap(),
+        |house, clients| {
+            clients[1].end().unwrap();
+            assert_eq!(house.poll(1), Ok(Poll::Closed));
+        },
+    ];
+    for step in steps {
+        let (mut house, mut clients) = open();
+        step(&mut house, &mut clients);
+        let none = Recorder::new(&mut house, Kept::with_room(1000), &settings());
+        assert_eq!(none.unwrap_err().kind(), ErrorKind::InvalidInput);
+        assert_eq!(house.tape_lost(), Err(TapeError::NoTape));
+    }
+}
+
+/// A clock that shows the time of the last wait, and then a microsecond more each time.
+struct Counted(Duration);
+
+impl Clock for Counted {
+    fn now(&mut self) -> Duration {
+        self.0 += Duration::from_micros(1);
+        self.0
+    }
+
+    fn sleep_until(&mut self, time: Duration) {
+        self.0 = self.0.max(time);
+    }
+
+    fn wait(&mut self, _bell: &Bell, until: Option<Duration>) {
+        self.0 = self.0.max(until.expect("somebody waits for a deadline"));
+    }
+}
+
+#[test]
+fn a_loop_in_real_time_writes_its_steps() {
+    let mut plan = Plan::new();
+    plan.admit(2, 5, Mode::Throttled).unwrap();
+    let (mut house, mut clients) = plan.open(4, 4).unwrap();
+    clients[0].send(7, 3).unwrap();
+    drop(clients);
+    let kept = Kept::with_room(1000);
+    let mut realtime = Realtime::with_clock(
+        &mut house,
+        Duration::from_millis(1),
+        Counted(Duration::ZERO),
+    );
+    realtime.record(kept.clone(), &Settings::default()).unwrap();
+    assert_eq!(realtime.run(|_| {}).unwrap(), Ended::Closed);
+    assert!(realtime.recorder().unwrap().error().is_none());
+    realtime.end_record().unwrap();
+    assert!(realtime.recorder().is_none());
+    realtime.end_record().unwrap();
+    let bytes = kept.bytes();
+    let end = bytes.iter().position(|byte| *byte == 0).unwrap();
+    let text = std::str::from_utf8(&bytes[..end]).unwrap();
+    assert!(
+        text.contains("tick = \"1000000 ns\"\n")
+            && text.contains("\"server-0\", mode = \"throttled\"")
+    );
+    // A job of three units, and the first of them; the client's end, which the next question takes; a unit; three ticks until the
+    // deadline; the third unit; the mark.
+    assert_eq!(bytes[end + 1..], [0x40, 3, 0xC0, 3, 0, 0xC0, 2, 3, 0xC0, 4]);
 }

@@ -21,7 +21,7 @@ use Rattle.cbs_core.proofs.Laws.{follows_both}
 use Rattle.cbs_units.specs.declared.count.CountJob.{CountJob}
 use Rattle.cbs_units.specs.Counting.{counted_step}
 use Rattle.cbs_tape.specs.Tapes.{Taped, Hears, HearsEach}
-use Rattle.cbs_recorded.specs.Records.{tape_in, Records, Recorded}
+use Rattle.cbs_recorded.specs.Records.{tape_in, HearsIfThere, Records, Recorded}
 
 -- some steps were told, and then others
 hears_both : (xs ys : List (Step CountJob)) (a b c : Taped) → HearsEach xs a b → HearsEach ys b c → HearsEach (xs ++ ys) a c
@@ -89,6 +89,12 @@ module _ {W : Type 0} (work : Meaning W) where
   pub recorded_at : {A : Type 0} (a b : CoreHeld W) (t : Option (Box Taped A)) (v : Box Taped A) (u : Taped) → t ≡ Some v → Records work a b v.value u
       → Recorded work a b (tape_in t) (Some u)
   recorded_at {A = A} a b t v u is r = subst (λ (o : Option (Box Taped A)). Recorded work a b (tape_in o) (Some u)) (sym is) (u, refl, r)
+
+  -- one step, of a tape that may be there
+  pub recorded_one : (a b : CoreHeld W) (t u : Option Taped) (x : Step W) (r : Reply W) → Makes work a b x r → HearsIfThere (counted_step work x) t u
+      → Recorded work a b t u
+  recorded_one a b None u x r makes hears = hears
+  recorded_one a b (Some t) u x r makes hears = (hears.0, hears.1, records_one a b t hears.0 x r makes hears.2)
 
   recorded_nothing : (a b : CoreHeld W) (t : Option Taped) → ((M : History W) → Agrees work a M → Agrees work b M) → Recorded work a b t t
   recorded_nothing a b None follows = refl

@@ -8,7 +8,7 @@ use Rattle.cbs_core.specs.Agreement.{Agrees, Follows}
 use Rattle.cbs_core.specs.Held.{CoreHeld}
 use Rattle.cbs_units.specs.declared.count.CountJob.{CountJob}
 use Rattle.cbs_units.specs.Counting.{counting, counted, counted_step}
-use Rattle.cbs_tape.specs.Tapes.{Taped, HearsEach}
+use Rattle.cbs_tape.specs.Tapes.{Taped, Hears, HearsEach}
 
 -- The core made some steps, from old to new, and the tape was told each of them, with its job as its units
 pub record Records {W : Type 0} (work : Meaning W) (old new : CoreHeld W) (before after : Taped) : Type 0 where
@@ -20,6 +20,11 @@ pub record Records {W : Type 0} (work : Meaning W) (old new : CoreHeld W) (befor
 abbrev pub tape_in : {A : Type 0} → Option (Box Taped A) → Option Taped
 tape_in None = None
 tape_in (Some b) = Some b.value
+
+-- a tape that may be there was told a step
+abbrev pub HearsIfThere : Step CountJob → Option Taped → Option Taped → Type 0
+HearsIfThere x None after = after ≡ None
+HearsIfThere x (Some before) after = (tape : Taped) × (after ≡ Some tape) × Hears x before tape
 
 -- the same of a tape that may be there: if there is none, there is none after the steps
 abbrev pub Recorded : {W : Type 0} → Meaning W → CoreHeld W → CoreHeld W → Option Taped → Option Taped → Type 0

@@ -7,7 +7,7 @@ ghost use Rattle.cbs_core.specs.Held.{HasRoom, held_at, may_end, ended_at, end_r
 ghost use Rattle.cbs_steps.specs.Replies.{advanced, charged};
 ghost use Rattle.cbs_steps.specs.declared.step.Step.TheVariants as Step;
 ghost use Rattle.cbs_steps.specs.declared.reply.Reply.TheVariants as Reply;
-ghost use Rattle.cbs_recorded.specs.Records.{tape_in, Records, Recorded, Loses};
+ghost use Rattle.cbs_recorded.specs.Records.{tape_in, HearsIfThere, Recorded, Loses};
 
 use cbs_core::{Core, CoreError, Ran};
 use cbs_job::{Completion, Task, Work};
@@ -25,26 +25,22 @@ pub fn run_told<W: Work, A: Allocator>(
     ensures recorded { Recorded W.meaning core.old core.new (tape_in tape.old)
         (tape_in tape.new) }
 {
-    match tape {
-        None => core.run(),
-        Some(tape) => run_with(core, tape),
-    }
-}
-
-/// Runs a unit, and tells it to this tape. It is not inlined, so that a run with no tape is one test longer than that of
-/// the core.
-#[inline(never)]
-fn run_with<W: Work, A: Allocator>(core: &mut Core<W, A>, tape: &mut Tape<A>) -> Ran
-    ensures makes { Makes W.meaning core.old core.new Step.Run (Reply.Ran result) }
-    ensures job { DoesRun W.meaning result core.old core.new }
-    ensures records { Records W.meaning core.old core.new tape.old tape.new }
-{
     let ran = core.run();
     match ran {
-        Ran::Unit { .. } | Ran::Done(_) => tape.ran(),
+        Ran::Unit { .. } | Ran::Done(_) => tell_unit(tape),
         Ran::Idle | Ran::ClockEnd => {}
     }
     ran
+}
+
+/// Tells a unit that ran to the tape, if there is one.
+#[inline(always)]
+fn tell_unit<A: Allocator>(tape: &mut Option<Box<Tape<A>, A>>)
+    ensures { HearsIfThere Step.Run (tape_in tape.old) (tape_in tape.new) }
+{
+    if let Some(tape) = tape {
+        tape.ran();
+    }
 }
 
 /// Gives a job to a server that has room for it, as [`Core::submit_reserved`] does, and tells it to the tape, with the

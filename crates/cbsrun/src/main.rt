@@ -12,12 +12,13 @@ use crate::bytes::{Unread, bytes_of, write_reason};
 use crate::lost::write_loss;
 use crate::progress::Teller;
 use cbsrun_commands::{
-    Action, Asked, BAD_FILE, ByteOutput, DONE, Form, MEMORY_VARIABLE, Progress, RUN_FAULT,
-    RunError, SweepForm, ToWrite, Verb, WRONG_WORDS, WordsFault, check_bytes_within,
-    draw_load_within, draw_record_within, draw_tasks_within, is_record, memory_bound, read_words,
-    replay_record_within, report_bytes_within, report_record_within, run_bytes_within,
-    simulate_bytes_within, simulate_jobs_within, simulate_lines_within, size_bytes_within,
-    sweep_bytes_within, write_pieces, write_read_fault, write_run_fault,
+    Action, Asked, BAD_FILE, ByteOutput, DONE, Form, Listing, MEMORY_VARIABLE, Progress, RUN_FAULT,
+    RecordForm, RunError, SweepForm, ToWrite, Verb, WRONG_WORDS, WordsFault, check_bytes_within,
+    cut_after, draw_load_within, draw_record_within, draw_tasks_within, is_record, memory_bound,
+    read_words, record_again_within, record_load_within, record_tasks_within, replay_record_within,
+    report_bytes_within, report_record_within, run_bytes_within, simulate_bytes_within,
+    simulate_jobs_within, simulate_lines_within, size_bytes_within, sweep_bytes_within,
+    write_pieces, write_read_fault, write_run_fault,
 };
 use cbsrun_fault_texts::printable;
 use cbsrun_tasks::MEMORY;
@@ -75,6 +76,15 @@ fn processors(rt: &impl Threads) -> usize {
     }
 }
 
+/// Returns the form of a record that is a tape, or else a text.
+fn form_of(taped: bool) -> RecordForm {
+    if taped {
+        RecordForm::Tape
+    } else {
+        RecordForm::Text
+    }
+}
+
 /// Runs the command that the command line asks for on the bytes of the file `name`, and returns the status. It runs and
 /// serves on `threads`.
 fn answered<R: Threads + Clock + Sync, P: Progress, O: ByteOutput, E: ByteOutput>(
@@ -100,11 +110,19 @@ fn answered<R: Threads + Clock + Sync, P: Progress, O: ByteOutput, E: ByteOutput
         Action::ReportLoad(report) => {
             simulate_bytes_within(alloc, memory, report, name, bytes, progress, out, err)
         }
-        Action::WriteLoadLines(changes) => {
+        Action::ListLoad(Listing::Lines, changes) => {
             simulate_lines_within(alloc, memory, changes, name, bytes, out, err)
         }
-        Action::WriteLoadJobs(changes) => {
+        Action::ListLoad(Listing::Csv, changes) => {
             simulate_jobs_within(alloc, memory, changes, name, bytes, progress, out, err)
+        }
+        Action::ListLoad(Listing::Record, changes) => {
+            let form = RecordForm::Text;
+            record_load_within(alloc, memory, form, changes, name, bytes, out, err)
+        }
+        Action::ListLoad(Listing::Tape, changes) => {
+            let form = RecordForm::Tape;
+            record_load_within(alloc, memory, form, changes, name, bytes, out, err)
         }
         Action::SweepLoad(sweep) => {
             let count = processors(threads);
@@ -124,6 +142,12 @@ fn answered<R: Threads + Clock + Sync, P: Progress, O: ByteOutput, E: ByteOutput
         }
         Action::DrawTasks(drawing) => {
             draw_tasks_within(alloc, memory, drawing, servers, name, bytes, out, err)
+        }
+        Action::RecordTasks { taped } if is_record(bytes) => {
+            record_again_within(alloc, memory, form_of(taped), name, bytes, out, err)
+        }
+        Action::RecordTasks { taped } => {
+            record_tasks_within(alloc, memory, form_of(taped), name, bytes, out, err)
         }
         Action::Run(Verb::Replay) if is_record(bytes) => {
             replay_record_within(alloc, memory, name, bytes, out, err)
@@ -221,11 +245,43 @@ fn status_of<R: Threads + Clock + Sync>(
         &mut out,
         &mut err,
     );
+    if status == DONE && makes_steps(asked.action) && is_record(&bytes) {
+        let mut below = ToWrite::new(Painted::new(rt.stderr(), alloc, in_err));
+        write_cut(alloc, name, &bytes, &mut below);
+    }
     if status == RUN_FAULT && is_explained(asked.action) {
         let mut below = ToWrite::new(Painted::new(rt.stderr(), alloc, in_err));
         write_loss(alloc, &out, &mut below);
     }
     status
+}
+
+/// Returns whether an action makes the steps of a record, if its file is one.
+fn makes_steps(action: Action) -> bool {
+    matches!(
+        action,
+        Action::Run(Verb::Replay)
+            | Action::ReportTasks(_)
+            | Action::DrawTasks(_)
+            | Action::RecordTasks { .. }
+    )
+}
+
+/// Writes that the tape of a record is cut, if it is. If out of memory, writes nothing.
+fn write_cut<E: ByteOutput>(alloc: Global, name: &str, bytes: &[u8], err: &mut E)
+    requires { MayWrite (E.state err.old) }
+{
+    let Ok(Some(entries)) = cut_after(alloc, bytes) else {
+        return;
+    };
+    let Ok(shown) = printable(alloc, name) else {
+        return;
+    };
+    if let Ok(text) = format!(in alloc;
+        "note: {shown} is cut after {entries} entries: more steps may have been made\n"
+    ) {
+        let _written = write_pieces(err, &[text.as_str()]);
+    }
 }
 
 /// Returns the heading of the output of a file, as `head` writes it. An empty line stands before each but the first.

@@ -95,9 +95,9 @@ load_text f budgets loads =
     plan_text f.tick f.names f.modes f.plan budgets ++ sources_text f.tick f.names f.plan.rates loads f.sources ++ lateness_text f
     ++ set_off (notes_text f loads)
 
--- the names of servers that have no names of their own
-abbrev pub numbered : ℕ → List (List ℕ)
-numbered n = map (λ s. codes "server " ++ decimal s) (range_with_len 0 n)
+-- the names of servers that have no names of their own: each begins so, and ends with the number of the server
+abbrev pub numbered : List ℕ → ℕ → List (List ℕ)
+numbered front n = map (λ s. front ++ decimal s) (range_with_len 0 n)
 
 -- what is reserved and what is left make up the bound
 abbrev pub IsSplit : Planned → Type 0

@@ -105,16 +105,17 @@ fn append_plan(
     append_periods(text, tick, plan.bandwidth().of)
 }
 
-/// Returns names for this many servers, which have no names of their own: `server 0`, `server 1` and so on. The only
-/// error is out of memory.
-pub fn numbered(alloc: Global, servers: u16) -> Result<Vec<String>, AllocError>
-    ensures names { IfOk result (λ names. map string_bytes names.items ≡ numbered servers) }
+/// Returns names for this many servers, which have no names of their own: each is the word `front` and the server's number.
+/// The only error is out of memory.
+pub fn numbered(alloc: Global, front: &str, servers: u16) -> Result<Vec<String>, AllocError>
+    ensures names { IfOk result (λ names. map string_bytes names.items
+        ≡ numbered front.now servers) }
     ensures count { IfOk result (λ names. length names.items ≡ servers) }
 {
     let mut names = Vec::with_capacity(alloc, usize::from(servers))?;
     for server in 0..servers {
         let mut name = String::new(alloc);
-        append_pair(&mut name, "server ", server)?;
+        append_pair(&mut name, front, server)?;
         names.push(name)?;
     }
     Ok(names)

@@ -6,6 +6,8 @@ use Rattle.cbsrun_command_line.specs.declared.actions.Drawing.{Drawing}
 use Rattle.cbsrun_command_line.specs.declared.actions.Drawing.TheVariants.{Svg, Text, Trace}
 use Rattle.cbsrun_command_line.specs.declared.actions.Form.{Form}
 use Rattle.cbsrun_command_line.specs.declared.actions.Form.TheVariants.{Report, Json}
+use Rattle.cbsrun_command_line.specs.declared.actions.Listing.{Listing}
+use Rattle.cbsrun_command_line.specs.declared.actions.Listing.TheVariants.{Lines, Csv, Record, Tape}
 use Rattle.cbsrun_command_line.specs.declared.actions.SweepForm.{SweepForm}
 use Rattle.cbsrun_command_line.specs.declared.actions.SweepForm.TheVariants as sweep
 use Rattle.cbsrun_command_line.specs.declared.actions.Verb.{Verb}
@@ -21,18 +23,25 @@ abbrev pub action_name : Action → List ℕ
 action_name (action.Check form strict) = codes "check"
 action_name (action.Size all) = codes "size"
 action_name (action.ReportLoad report) = codes "simulate"
-action_name (action.WriteLoadLines changes) = codes "simulate"
-action_name (action.WriteLoadJobs changes) = codes "simulate"
+action_name (action.ListLoad listing changes) = codes "simulate"
 action_name (action.SweepLoad sweep) = codes "simulate"
 action_name (action.DrawLoad drawn changes) = codes "simulate"
 action_name (action.ReportTasks form) = codes "replay"
 action_name (action.DrawTasks drawn) = codes "replay"
+action_name (action.RecordTasks taped) = codes "replay"
 action_name (action.Run verb) = name_of verb
 
 -- the word of each form of a report
 abbrev pub form_name : Form → List ℕ
 form_name Report = codes "report"
 form_name Json = codes "json"
+
+-- the word of each listing
+abbrev pub listing_name : Listing → List ℕ
+listing_name Lines = codes "lines"
+listing_name Csv = codes "csv"
+listing_name Record = codes "record"
+listing_name Tape = codes "tape"
 
 -- the word of each form of many runs
 abbrev pub sweep_form_name : SweepForm → List ℕ

@@ -10,7 +10,7 @@ use Rattle.cbsrun_window.specs.Windows.{AnswersLong, AnswersWindow}
 use Rattle.cbsrun_window.specs.declared.window.Window.{Window}
 use Rattle.cbsrun_window.specs.declared.window.WindowError.{WindowError}
 use Rattle.cbsrun_command_line.specs.Fits.{Fits, most_ticks}
-use Rattle.cbsrun_command_line.specs.Actions.{action_name, drawing_name, form_name, sweep_form_name}
+use Rattle.cbsrun_command_line.specs.Actions.{action_name, drawing_name, form_name, listing_name, sweep_form_name}
 use Rattle.cbsrun_command_line.specs.declared.actions.Action.{Action}
 use Rattle.cbsrun_command_line.specs.declared.actions.Action.TheVariants as action
 use Rattle.cbsrun_command_line.specs.declared.actions.Changes.{Changes}
@@ -143,14 +143,15 @@ abbrev pub AsksSeeds : Text → Seeds → Type 0
 AsksSeeds text s = MatchOption (seeds_in text) ⊥ (λ two. AreSeeds two.0 two.1 s)
 
 -- Which form without ticks an action has. For check and simulate that is a report, as text if no form is named; for
--- simulate also the lines or the jobs, by their names. For replay that is the lines, by their name or if no form is named, or a report by its name.
+-- simulate also a listing by its name. For replay that is the lines, by their name or if no form is named, or a report or a
+-- record by its name.
 abbrev pub AsksPlain : Option Text → Action → Type 0
 AsksPlain name (action.Check form strict) = MatchOption name (form ≡ Report) (λ n. n ≡ form_name form)
 AsksPlain name (action.ReportLoad report) = MatchOption name (report.form ≡ Report) (λ n. n ≡ form_name report.form)
-AsksPlain name (action.WriteLoadLines changes) = MatchOption name ⊥ (λ n. n ≡ codes "lines")
-AsksPlain name (action.WriteLoadJobs changes) = MatchOption name ⊥ (λ n. n ≡ codes "csv")
+AsksPlain name (action.ListLoad listing changes) = name ≡ Some (listing_name listing)
 AsksPlain name (action.SweepLoad sweep) = MatchOption name (sweep.form ≡ ManyReport) (λ n. n ≡ sweep_form_name sweep.form)
 AsksPlain name (action.ReportTasks form) = MatchOption name ⊥ (λ n. n ≡ form_name form)
+AsksPlain name (action.RecordTasks taped) = name ≡ Some (if taped then codes "tape" else codes "record")
 AsksPlain name (action.Run Replay) = MatchOption name ⊤ (λ n. n ≡ codes "lines")
 AsksPlain name _ = ⊥
 
@@ -160,8 +161,7 @@ abbrev pub AsksRest : Said → Action → Type 0
 AsksRest s (action.Check form strict) = strict ≡ is_given s.strict
 AsksRest s (action.Size all) = all ≡ is_given s.all
 AsksRest s (action.ReportLoad report) = AsksChanges s.seed s.until report.changes × (report.strict ≡ is_given s.strict) × (s.seeds ≡ None)
-AsksRest s (action.WriteLoadLines changes) = AsksChanges s.seed s.until changes × (is_given s.strict ≡ false) × (s.seeds ≡ None)
-AsksRest s (action.WriteLoadJobs changes) = AsksChanges s.seed s.until changes × (is_given s.strict ≡ false) × (s.seeds ≡ None)
+AsksRest s (action.ListLoad listing changes) = AsksChanges s.seed s.until changes × (is_given s.strict ≡ false) × (s.seeds ≡ None)
 AsksRest s (action.SweepLoad sweep) = MatchOption s.seeds ⊥ (λ text. AsksSeeds text sweep.seeds) × (s.seed ≡ None)
     × AsksChanges s.seed s.until sweep.changes × (sweep.strict ≡ is_given s.strict)
 AsksRest s (action.DrawLoad drawn changes) = AsksChanges s.seed s.until changes × (is_given s.strict ≡ false) × (s.seeds ≡ None)

@@ -40,6 +40,19 @@ pub enum Drawing {
     Trace,
 }
 
+/// What is written of a simulation, step by step or job by job.
+#[derive(Clone, Copy, PartialEq, Eq)]
+pub enum Listing {
+    /// A line for each step.
+    Lines,
+    /// A line of CSV for each job.
+    Csv,
+    /// A record of all steps, as a text.
+    Record,
+    /// A record of all steps, as a tape.
+    Tape,
+}
+
 /// What takes the place of what a load itself says. Without a number, the load's own one stays.
 #[derive(Clone, Copy, PartialEq, Eq)]
 pub struct Changes {
@@ -118,10 +131,8 @@ pub enum Action {
     },
     /// The simulation of a load, with this report.
     ReportLoad(LoadReport),
-    /// The simulation of a load with these changes, with a line for each step.
-    WriteLoadLines(Changes),
-    /// The simulation of a load with these changes, with a line of CSV for each job.
-    WriteLoadJobs(Changes),
+    /// The simulation of a load with these changes, with this listing.
+    ListLoad(Listing, Changes),
     /// Many simulations of a load, with one seed after another.
     SweepLoad(LoadSweep),
     /// The simulation of a load with these changes, with this drawing.
@@ -130,6 +141,11 @@ pub enum Action {
     ReportTasks(Form),
     /// The replay of a task file, with this drawing.
     DrawTasks(RunDrawing),
+    /// The replay of a task file, with a record of all steps: as a tape, or else as a text.
+    RecordTasks {
+        /// Whether it is a tape.
+        taped: bool,
+    },
     /// The replay of a task file with a line for each step, or its service.
     Run(Verb),
 }

@@ -9,8 +9,8 @@ mod texts;
 mod words;
 
 pub use actions::{
-    Action, Asked, Changes, Drawing, Form, LAST_END, LoadReport, LoadSweep, MOST_RUNS, MOST_SEED,
-    Seeds, SweepForm, Verb,
+    Action, Asked, Changes, Drawing, Form, LAST_END, Listing, LoadReport, LoadSweep, MOST_RUNS,
+    MOST_SEED, Seeds, SweepForm, Verb,
 };
 pub use cbsrun_window::Window;
 pub use fault::WordsFault;

@@ -1,14 +1,14 @@
 //! The options of a command, and what they ask for.
 
 ghost use Rattle.std.specs.Prelude.{◌≡◌, codes, option_map, IfOk, None, Some};
-ghost use Rattle.cbsrun_command_line.specs.Actions.{drawing_name, form_name, sweep_form_name};
+ghost use Rattle.cbsrun_command_line.specs.Actions.{drawing_name, form_name, listing_name, sweep_form_name};
 ghost use Rattle.cbsrun_command_line.specs.Faults.{words_fault_number};
 ghost use Rattle.cbsrun_command_line.specs.Fits.{most_ticks};
 ghost use Rattle.cbsrun_command_line.specs.Options.{AnswersFit, AsksChanges, AsksDrawing, AsksFor, AsksPlainly, AsksSeeds, AsksTicks, Finds, after_dot, around_dot, IsNumber, IsTick, is_for_drawings, is_given, is_report, are_enough, last_end, said, seeds_in, text_of};
 
 use crate::actions::{
-    Action, Changes, Drawing, Form, LAST_END, LoadReport, LoadSweep, MOST_RUNS, MOST_SEED, Seeds,
-    SweepForm, Verb,
+    Action, Changes, Drawing, Form, LAST_END, Listing, LoadReport, LoadSweep, MOST_RUNS, MOST_SEED,
+    Seeds, SweepForm, Verb,
 };
 use crate::fault::WordsFault;
 use crate::run_drawing::RunDrawing;
@@ -185,6 +185,19 @@ fn form_of(name: &str) -> Option<Form>
     }
 }
 
+/// Returns the listing with this name, or `None` if there is none.
+fn listing_of(form: Option<&str>) -> Option<Listing>
+    ensures { Finds result (λ listing. text_of form.entry ≡ Some (listing_name listing)) }
+{
+    match form {
+        Some("lines") => Some(Listing::Lines),
+        Some("csv") => Some(Listing::Csv),
+        Some("record") => Some(Listing::Record),
+        Some("tape") => Some(Listing::Tape),
+        _ => None,
+    }
+}
+
 /// Returns the form of what many runs tell with this name, or `None` if there is none.
 fn sweep_form_of(name: &str) -> Option<SweepForm>
     ensures { Finds result (λ form. name.now ≡ sweep_form_name form) }
@@ -216,20 +229,30 @@ fn is_for_drawings(options: Options<'_>) -> bool
     options.from.is_some() || options.to.is_some() || options.server.is_some()
 }
 
+/// Returns the action of `simulate` with these options for this listing. Returns `None` if a number is out of its range,
+/// or if the listing is to be strict.
+fn listed_as(listing: Listing, options: Options<'_>) -> Option<Action>
+    requires form { text_of options.form ≡ Some (listing_name listing) }
+    requires once { text_of options.seeds ≡ None }
+    ensures { Finds result (AsksPlainly (codes "simulate") (said options.entry)) }
+{
+    let changes = changes_of(options.seed, options.until)?;
+    (!is_given(options.strict)).then_some(Action::ListLoad(listing, changes))
+}
+
 /// Returns the action of `simulate` with these options for a form that shows no ticks. Without a form, this is the report
-/// as text. Returns `None` if no such form has this name, if a number is out of its range, or if the lines or the jobs are
-/// to be strict.
+/// as text. Returns `None` if no such form has this name, if a number is out of its range, or if a listing is to be strict.
 fn simulated_as(options: Options<'_>) -> Option<Action>
     requires { text_of options.seeds ≡ None }
     ensures { Finds result (AsksPlainly (codes "simulate") (said options.entry)) }
 {
+    if let Some(listing) = listing_of(options.form) {
+        return listed_as(listing, options);
+    }
     let changes = changes_of(options.seed, options.until)?;
     let strict = is_given(options.strict);
     let form = match options.form {
         None => Form::Report,
-        Some("lines" | "csv") if strict => return None,
-        Some("lines") => return Some(Action::WriteLoadLines(changes)),
-        Some("csv") => return Some(Action::WriteLoadJobs(changes)),
         Some(name) => form_of(name)?,
     };
     Some(Action::ReportLoad(LoadReport {
@@ -246,6 +269,8 @@ fn replayed_as(options: Options<'_>) -> Option<Action>
 {
     match options.form {
         None | Some("lines") => Some(Action::Run(Verb::Replay)),
+        Some("record") => Some(Action::RecordTasks { taped: false }),
+        Some("tape") => Some(Action::RecordTasks { taped: true }),
         Some(name) => form_of(name).map(Action::ReportTasks),
     }
 }
@@ -410,8 +435,8 @@ fn append_no_ticks(
 fn forms_of(verb: &str) -> &'static str {
     match verb {
         "check" => "report, json",
-        "simulate" => "report, json, text, svg, trace, lines, csv",
-        _ => "lines, report, json, text, svg, trace",
+        "simulate" => "report, json, text, svg, trace, lines, csv, record, tape",
+        _ => "lines, report, json, text, svg, trace, record, tape",
     }
 }
 

@@ -77,6 +77,8 @@ Saved as RECORD.toml, it is checked, run and drawn by
   cbsrun replay RECORD.toml
   cbsrun replay --as svg RECORD.toml > record.svg
 
+simulate and replay write one by --as record, or in few bytes by --as tape.
+
 Guaranteed, for soft and throttled servers, whatever the clients ask for:
   - No server takes more than its share: its deadline pays for what it gets, by a
     period for each budget.
@@ -96,7 +98,7 @@ Exit status:
   0  done, or this help; also if jobs are late or refused: that is an answer; also if
      the output is a pipe that was closed, but not with --strict
   1  done, and with --strict a job was late or refused, or is not promised; or size
-     found no load in which each job is promised in time
+     found no load in which each job is promised in time; or a record would be too long
   2  the command line is wrong, the run ends before the first tick to show, or
      CBSRUN_MEMORY is no whole number
   3  the file could not be read, or has a fault
@@ -118,10 +120,10 @@ promises its jobs in time";
 pub(crate) const ALL: &str = "Each server gets a reservation, also if it has one";
 
 pub(crate) const SIMULATE: &str =
-    "Releases the jobs of a load's sources, runs them, and reports, draws, or writes a line for each step or job";
+    "Releases the jobs of a load's sources, runs them, and reports, draws, records, or writes a line for each step or job";
 
 pub(crate) const REPLAY: &str =
-    "Runs the steps of a task file or of a record, and writes a line for each, reports, or draws";
+    "Runs the steps of a task file or of a record, and writes a line for each, reports, draws, or records";
 
 pub(crate) const SERVE: &str =
     "Gives each server's submits to a client of its own, serves them all, \
@@ -130,12 +132,14 @@ and writes the results of each server";
 pub(crate) const REPORTS: &str =
     "What is written: report (figures of each server), json (the same for programs), \
 text (a timeline), svg (a picture), trace (for ui.perfetto.dev), lines (one for \
-each step) or csv (one for each job) [default: report]";
+each step), csv (one for each job), record (all steps, for replay) or tape (the \
+same, in few bytes) [default: report]";
 
 pub(crate) const TRACES: &str =
     "What is written: lines (one for each step), report (figures of each server), \
-json (the same for programs), text (a timeline), svg (a picture) or trace (for \
-ui.perfetto.dev) [default: lines]";
+json (the same for programs), text (a timeline), svg (a picture), trace (for \
+ui.perfetto.dev), record (all steps, for replay) or tape (the same, in few bytes) \
+[default: lines]";
 
 pub(crate) const FROM: &str =
     "The first tick that a picture, a timeline or a trace shows [default: 0]";

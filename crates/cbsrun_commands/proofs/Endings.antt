@@ -1,5 +1,5 @@
 -- How a command on a file ends, by what it did and by what was told of it.
-use Rattle.std.proofs.Common.{◌≡◌, ◌&&◌, not, Bool, true, false, List, ℕ, ap, arith, subst, Result, Ok, Err, inl, inr}
+use Rattle.std.proofs.Common.{◌≡◌, ◌&&◌, not, Bool, true, false, List, ℕ, ap, arith, subst, Option, Some, None, Result, Ok, Err, inl, inr}
 use Rattle.std.specs.Prelude.{◌≢◌, IfOk}
 use Rattle.cbsrun_tasks.specs.Spelling.{file}
 use Rattle.cbsrun_tasks.specs.TaskFiles.{File}
@@ -11,6 +11,7 @@ use Rattle.cbsrun_lines.specs.Writers.{Writer, IsUntouched}
 use Rattle.cbsrun_lines.specs.declared.run_error.RunError.{RunError}
 use Rattle.cbsrun_lines.specs.declared.run_error.RunError.TheVariants.{OutOfMemory, WriteFault, ClockEnd, Stalled}
 use Rattle.cbsrun_commands.specs.Commands.{Command, Does, EndsAs, EndsByAnswer, EndsCheck, Tells, TellsAnswer, TellsCheck, answered, closed_pipe, checked, done, not_done, unread}
+use Rattle.cbsrun_commands.specs.Commands.{DoesOrLacks, EndsOrLacks, TellsOrLacks, ended, lacking}
 use Rattle.cbsrun_commands.specs.Commands.{nothing_shown, refused, status_done, stopped}
 use Rattle.cbsrun_commands.specs.FaultLines.{Prints, StopsPrinting}
 use Rattle.cbsrun_commands.specs.declared.ending.Stopped.{Stopped}
@@ -48,6 +49,16 @@ ends c name bytes closed out out' err err' (Err (Run error)) status d (inl (brok
     let cut = subst (λ (e : RunError). StopsPrinting (c.prints d.0) (c.short d.0) e out out') broke.0 d.2 in
     rw is (closed_pipe d.0 cut.0 d.1 cut.1 cut.2 broke.1 kept)
 ends c name bytes closed out out' err err' (Err (Run error)) status d (inr (other, is, told)) = rw is (stopped d.0 error d.1 d.2 other told)
+
+-- a command that may find nothing to print ends as it did, and as it was told
+pub ends_or_lacks : {F A : Type 0} (c : Command F) (lacks : F → Type 0) (name bytes : List ℕ) (closed : Bool) (out out' err err' : Writer)
+    (ended : Result (Option A) Stopped) (status : ℕ) → DoesOrLacks c lacks bytes ended out out' → TellsOrLacks name bytes closed ended err err' status
+    → EndsOrLacks c lacks name bytes closed out out' err err' status
+ends_or_lacks c lacks name bytes closed out out' err err' (Ok None) status d t =
+    ended status (ends c name bytes closed out out' err err' (Ok tt) status d t)
+ends_or_lacks c lacks name bytes closed out out' err err' (Ok (Some why)) status d t = rw t.0 (lacking d.0 t.1.0 d.1 d.2 d.3 t.1.1)
+ends_or_lacks c lacks name bytes closed out out' err err' (Err cause) status d t =
+    ended status (ends c name bytes closed out out' err err' (Err cause) status d t)
 
 -- bytes spell one file, of which each answer is one of the file that was found
 answer_of : {F : Type 0} (read : Result F FileFault) (answers : F → Bool → Type 0) (answer : Bool) (f h : F) → read ≡ Ok f → read ≡ Ok h

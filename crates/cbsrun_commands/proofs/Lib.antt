@@ -7,3 +7,4 @@ pub mod Endings
 pub mod Others
 pub mod Drawings
 pub mod Wanted
+mod PrintedRecords

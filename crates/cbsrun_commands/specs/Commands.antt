@@ -102,6 +102,13 @@ DoesOrLacks c lacks bytes (Ok None) old new = Does {A = Unit {0}} c bytes (Ok (t
 DoesOrLacks {F} c lacks bytes (Ok (Some why)) old new = (f : F) × (c.read bytes ≡ Ok f) × lacks f × IsUntouched old new
 DoesOrLacks c lacks bytes (Err cause) old new = Does {A = Unit {0}} c bytes (Err cause) old new
 
+-- how a command that may find nothing to print ended was told, with this status: with no reason as any command, and with a
+-- reason by 1. What is written of the reason may be cut short
+abbrev pub TellsOrLacks : {A : Type 0} → List ℕ → List ℕ → Bool → Result (Option A) Stopped → Writer → Writer → ℕ → Type 0
+TellsOrLacks name bytes closed (Ok None) old new status = Tells name bytes closed (Ok (tt {0})) old new status
+TellsOrLacks name bytes closed (Ok (Some why)) old new status = (status ≡ 1) × ((told : List ℕ) × TriesToWrite old new told)
+TellsOrLacks name bytes closed (Err cause) old new status = Tells name bytes closed (Err cause) old new status
+
 -- A command that may find nothing to print ended with this status, and left out and err so. If there is a text, it ended
 -- as any command does. Else the status is 1, and what is written to err may be cut short
 pub data EndsOrLacks {F : Type 0} (c : Command F) (lacks : F → Type 0) (name bytes : List ℕ) (closed : Bool) (out out' err err' : Writer)

@@ -1,5 +1,7 @@
 -- The lines of faults.
-use Rattle.std.specs.Prelude.{ℕ, List, ◌⊎◌, ◌++◌, codes, decimal, ◌≡◌, [], ◌∷◌, Result, Ok, Err}
+use Rattle.cbsrun_records.specs.Kinds.{begins_record}
+use Rattle.cbsrun_records.specs.Parts.{text_of}
+use Rattle.std.specs.Prelude.{ℕ, if◌then◌else◌, List, ◌⊎◌, ◌++◌, codes, decimal, ◌≡◌, [], ◌∷◌, Result, Ok, Err}
 use Rattle.cbsrun_toml_tables.specs.Faults.{file_kind_number, file_kind_name, place_text}
 use Rattle.cbsrun_io.specs.Reads.{read_error_number, read_error_name}
 use Rattle.cbsrun_lines.specs.Writers.{run_error_number, run_error_name, Writer, IsUntouched, Writes, FailsToWrite, TriesToWrite}
@@ -42,11 +44,15 @@ abbrev pub Prints : {A : Type 0} → (List ℕ → Type 0) → Result A RunError
 Prints is (Ok x) old new = (text : List ℕ) × is text × Writes old new text
 Prints is (Err error) old new = StopsPrinting is IsUntouched error old new
 
+-- the TOML document of a file: all of it, but of a record what stands before its tape
+abbrev pub document_of : List ℕ → List ℕ
+document_of bytes = if begins_record bytes then text_of bytes else bytes
+
 -- what stands below the line of a fault in the file with this name and these bytes: nothing, or an empty line and then
 -- a text that explains the fault
 abbrev pub StandsBelow : List ℕ → List ℕ → FileFault → List ℕ → Type 0
 StandsBelow name bytes fault [] = Unit {0}
-StandsBelow name bytes fault (byte ∷ text) = (byte ≡ 10) × ExplainsRefusal name bytes fault text
+StandsBelow name bytes fault (byte ∷ text) = (byte ≡ 10) × ExplainsRefusal name (document_of bytes) fault text
 
 -- the line of a fault was written, and what stands below it; or a call failed, and a prefix of both was written
 abbrev pub Explains : List ℕ → List ℕ → FileFault → Writer → Writer → Type 0
@@ -64,7 +70,7 @@ StandsLast bytes others = (others ≡ []) ⊎ TellsOthersOf most_explained bytes
 abbrev pub StandAllBelow : List ℕ → List ℕ → FileFault → List ℕ → Type 0
 StandAllBelow name bytes fault [] = Unit {0}
 StandAllBelow name bytes fault (byte ∷ texts) =
-    (byte ≡ 10) × (text : List ℕ) × (others : List ℕ) × ExplainsRefusal name bytes fault text × StandsLast bytes others × (texts ≡ text ++ others)
+    (byte ≡ 10) × (text : List ℕ) × (others : List ℕ) × ExplainsRefusal name (document_of bytes) fault text × StandsLast bytes others × (texts ≡ text ++ others)
 
 -- the line of a fault was written, and what `check` writes below it; or a call failed, and a prefix of both was written
 abbrev pub ExplainsAll : List ℕ → List ℕ → FileFault → Writer → Writer → Type 0
@@ -74,4 +80,4 @@ ExplainsAll name bytes fault old new =
 -- the line of a fault and the text that explains it were written
 abbrev pub WritesExplained : List ℕ → List ℕ → FileFault → Writer → Writer → Type 0
 WritesExplained name bytes fault old new =
-    (text : List ℕ) × ExplainsRefusal name bytes fault text × Writes old new (file_line fault ++ (10 ∷ text))
+    (text : List ℕ) × ExplainsRefusal name (document_of bytes) fault text × Writes old new (file_line fault ++ (10 ∷ text))

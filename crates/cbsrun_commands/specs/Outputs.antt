@@ -1,5 +1,5 @@
 -- What each command reads, and what it prints.
-use Rattle.std.specs.Prelude.{ℕ, Bool, true, false, if◌then◌else◌, List, [], ◌++◌, length, get_or, unwrap_or, Option, None, Result, ◌≡◌, Ok, Err}
+use Rattle.std.specs.Prelude.{ℕ, Bool, true, false, if◌then◌else◌, List, [], ◌++◌, codes, length, get_or, unwrap_or, Option, None, Result, ◌≡◌, Ok, Err}
 use Rattle.std.specs.List.{list_all}
 use Rattle.cbsrun_command_line.specs.declared.actions.Changes.{Changes}
 use Rattle.cbs_guarantee.specs.declared.source.NotPromised.{NotPromised}
@@ -66,14 +66,14 @@ IsLoadCheck f rounded text = (told : List ℕ) × IsLoadText f told × (text ≡
 -- the text is what `check` prints about the file. The servers of a task file are called by their numbers
 abbrev pub IsCheckText : AnyFile → List ℕ → Type 0
 IsCheckText (Load f rounded) text = IsLoadCheck f rounded text
-IsCheckText (Tasks f) text = IsPlanText None (numbered (length f.plan.rates)) f.modes f.plan text
+IsCheckText (Tasks f) text = IsPlanText None (numbered (codes "server ") (length f.plan.rates)) f.modes f.plan text
 IsCheckText (Record f) text = IsPlanText f.tick f.names f.modes f.plan text
 
 -- the text is what `check` prints about the file in this form, and names the file so
 abbrev pub IsCheckIn : Form → List ℕ → AnyFile → List ℕ → Type 0
 IsCheckIn Report name f text = IsCheckText f text
 IsCheckIn Json name (Load f rounded) text = IsCheckJson name f text
-IsCheckIn Json name (Tasks f) text = IsPlanJson name (numbered (length f.plan.rates)) f.modes f.plan text
+IsCheckIn Json name (Tasks f) text = IsPlanJson name (numbered (codes "server ") (length f.plan.rates)) f.modes f.plan text
 IsCheckIn Json name (Record f) text = IsPlanJson name f.names f.modes f.plan text
 
 -- the command that prints what it finds in a file of any kind

@@ -1,6 +1,6 @@
 //! The command `check`: from the bytes of a load, a task file or a record to a status.
 
-ghost use Rattle.std.specs.Prelude.{◌≡◌, IfOk, Ok, get_or, length, map, string_bytes};
+ghost use Rattle.std.specs.Prelude.{◌≡◌, IfOk, Ok, codes, get_or, length, map, string_bytes};
 ghost use Rattle.toml.specs.View.{table_view};
 ghost use Rattle.cbsrun_sizing.specs.ServerLoads.{no_load};
 ghost use Rattle.cbsrun_check_text.specs.Checks.{numbered};
@@ -88,23 +88,28 @@ fn load_text(alloc: Global, load: &Load, rounded: &RoundingsText) -> Result<Stri
     Ok(text)
 }
 
-/// Returns names for the servers of a task file, which have no names of their own.
-fn numbers(alloc: Global, file: &TaskFile) -> Result<Vec<String>, AllocError>
+/// Returns names for the servers of a task file, which have no names of their own: each is the word `front` and the server's
+/// number.
+pub(crate) fn numbers(
+    alloc: Global,
+    front: &str,
+    file: &TaskFile,
+) -> Result<Vec<String>, AllocError>
     ensures names { IfOk result (λ names. map string_bytes names.items
-        ≡ numbered (length file.now.plan.rates)) }
+        ≡ numbered front.now (length file.now.plan.rates)) }
     ensures count { IfOk result (λ names. length names.items ≡ length file.now.plan.rates) }
     ensures moded { length file.now.modes ≡ length file.now.plan.rates }
 {
     // Reading the modes gives the proof that each server has one.
     let _modes = file.modes();
-    numbered(alloc, file.plan().len() as u16)
+    numbered(alloc, front, file.plan().len() as u16)
 }
 
 /// Returns the text that `check` prints about a task file.
 fn tasks_text(alloc: Global, file: &TaskFile) -> Result<String, AllocError>
     ensures { IfOk result (λ text. IsCheckText (Tasks file.now) (string_bytes text)) }
 {
-    let names = numbers(alloc, file)?;
+    let names = numbers(alloc, "server ", file)?;
     check_plan(alloc, None, &names, file.modes(), file.plan())
 }
 
@@ -131,7 +136,7 @@ fn check_text(alloc: Global, file: &AnyFile) -> Result<String, AllocError>
 fn tasks_object(alloc: Global, name: &str, file: &TaskFile) -> Result<String, AllocError>
     ensures { IfOk result (λ text. IsCheckIn Json name.now (Tasks file.now) (string_bytes text)) }
 {
-    let names = numbers(alloc, file)?;
+    let names = numbers(alloc, "server ", file)?;
     check_plan_json(alloc, name, &names, file.modes(), file.plan())
 }
 

@@ -2,8 +2,8 @@
 
 ghost use Rattle.std.specs.Prelude.{◌≡◌, IfSome};
 ghost use Rattle.cbsrun_toml_tables.specs.Documents.{no_memory};
-ghost use Rattle.cbsrun_commands.specs.Commands.{Tells, TellsAnswer, TellsCheck, TellsRun, status_done};
-ghost use Rattle.cbsrun_commands.specs.FaultLines.{file_line, Explains, ExplainsAll, Prints, WritesExplained};
+ghost use Rattle.cbsrun_commands.specs.Commands.{Tells, TellsAnswer, TellsCheck, TellsOrLacks, TellsRun, status_done};
+ghost use Rattle.cbsrun_commands.specs.FaultLines.{document_of, file_line, Explains, ExplainsAll, Prints, WritesExplained};
 ghost use Rattle.cbsrun_commands.specs.declared.ending.Stopped.TheVariants.{Ended, Run, Unread};
 ghost use Rattle.cbsrun_lines.specs.Writers.{MayWrite, TriesToWrite};
 ghost use Rattle.cbsrun_lines.specs.declared.run_error.RunError.TheVariants.{OutOfMemory};
@@ -12,6 +12,7 @@ use crate::fault_lines::{write_file_fault, write_nothing_shown, write_run_fault}
 use cbsrun_fault_texts::{explain, explain_others};
 use cbsrun_io::{ByteOutput, write_pieces, write_text};
 use cbsrun_lines::RunError;
+use cbsrun_records::{is_record, text_of};
 use cbsrun_runs::NothingShown;
 use cbsrun_tasks::{FileFault, FileKind, wants_within};
 use std::alloc::{AllocError, Global};
@@ -19,7 +20,8 @@ use std::alloc::{AllocError, Global};
 /// The status of a run that is complete, of one whose output nobody reads any more, and of a request for help.
 pub const DONE: u8 = 0;
 
-/// The status of a command that is done, if its answer is no: with `--strict`, and of a sketch that is not sized.
+/// The status of a command that is done, if its answer is no: with `--strict`, of a sketch that is not sized, and of a run
+/// that is not recorded.
 pub const ANSWER_IS_NO: u8 = 1;
 
 /// The status of a wrong command line.
@@ -86,6 +88,17 @@ pub(crate) fn print<O: ByteOutput>(text: &str, out: &mut O) -> Result<(), RunErr
     Ok(())
 }
 
+/// Returns the TOML document of a file: all of it, but of a record what stands before its tape.
+fn document_of(bytes: &[u8]) -> &[u8]
+    ensures { result.now ≡ document_of bytes.now }
+{
+    if is_record(bytes) {
+        text_of(bytes)
+    } else {
+        bytes
+    }
+}
+
 /// Writes the line of a file's fault, then an empty line and an explanation of the fault. To explain a fault, the file is
 /// read as one document. The explanation is left out if the fault is out of memory, if the document needs more than
 /// `memory` bytes, or if there is no memory for it. Returns `None` if it is left out, or if a call failed.
@@ -105,10 +118,11 @@ fn write_explained<E: ByteOutput>(
         (E.state err.old) (E.state err.new)) }
 {
     write_file_fault(err, fault).ok()?;
-    if fault.kind == FileKind::OutOfMemory || !wants_within(bytes, memory) {
+    let document = document_of(bytes);
+    if fault.kind == FileKind::OutOfMemory || !wants_within(document, memory) {
         return None;
     }
-    let text = explain(alloc, name, bytes, fault).ok()?;
+    let text = explain(alloc, name, document, fault).ok()?;
     write_pieces(err, &["\n", text.as_str()]).ok()
 }
 
@@ -212,6 +226,32 @@ pub(crate) fn status_by_answer<E: ByteOutput>(
             status_of(alloc, memory, name, bytes, Err(stopped), quiet, err)
         }
     }
+}
+
+/// Writes how a command that may find nothing to print ended, on the file that the bytes spell: nothing if it is done, and
+/// else why nothing is printed, or why it stopped. The output was found `closed` or not. Returns the status.
+pub(crate) fn status_or_lack<E: ByteOutput>(
+    alloc: Global,
+    memory: u64,
+    name: &str,
+    bytes: &[u8],
+    ended: Result<Option<String>, Stopped>,
+    closed: bool,
+    err: &mut E,
+) -> u8
+    requires { MayWrite (E.state err.old) }
+    ensures { TellsOrLacks name.now bytes.now closed ended
+        (E.state err.old) (E.state err.new) result }
+{
+    let found = match ended {
+        Ok(found) => found,
+        Err(stopped) => return status_of(alloc, memory, name, bytes, Err(stopped), closed, err),
+    };
+    let Some(why) = found else {
+        return DONE;
+    };
+    let _written = write_pieces(err, &[why.as_str()]);
+    ANSWER_IS_NO
 }
 
 /// Writes how `check` ended, on the file that the bytes spell, and returns the status, as [`status_by_answer`] does. If the

@@ -16,21 +16,23 @@ mod records;
 mod report;
 mod result_lines;
 mod run;
+mod run_records;
 mod serve;
 mod servers;
 mod size;
 mod sweeps;
 
 pub use cbsrun_command_line::{
-    Action, Asked, Changes, Drawing, Form, LoadReport, LoadSweep, RunDrawing, Seeds, SweepForm,
-    Verb, Window, WordsFault, read_words,
+    Action, Asked, Changes, Drawing, Form, Listing, LoadReport, LoadSweep, RunDrawing, Seeds,
+    SweepForm, Verb, Window, WordsFault, read_words,
 };
 pub use cbsrun_io::{
     ByteInput, ByteOutput, FromRead, MAX_BYTES, ReadError, ToWrite, read_all, write_pieces,
     write_text,
 };
 pub use cbsrun_lines::{RunError, replay};
-pub use cbsrun_records::is_record;
+pub use cbsrun_records::{cut_after, is_record};
+pub use cbsrun_run_records::RecordForm;
 pub use cbsrun_runs::{NoProgress, Progress};
 pub use check::check_bytes_within;
 pub use ending::{ANSWER_IS_NO, BAD_FILE, DONE, RUN_FAULT, WRONG_WORDS};
@@ -42,6 +44,7 @@ pub use pictures::{draw_load_within, draw_tasks_within};
 pub use records::{draw_record_within, replay_record_within, report_record_within};
 pub use report::{report_bytes_within, simulate_bytes_within};
 pub use run::{run_bytes, run_bytes_within};
+pub use run_records::{record_again_within, record_load_within, record_tasks_within};
 pub use serve::serve_file;
 pub use size::size_bytes_within;
 pub use sweeps::sweep_bytes_within;

@@ -4,9 +4,9 @@ ghost use Rattle.cbsrun_commands.specs.Commands.{DoesOrLacks, EndsOrLacks};
 ghost use Rattle.cbsrun_commands.specs.Outputs.{size_command, IsNotSized};
 ghost use Rattle.cbsrun_lines.specs.Writers.{MayWrite};
 
-use crate::ending::{ANSWER_IS_NO, DONE, Stopped, print, status_of};
+use crate::ending::{Stopped, print, status_or_lack};
 use crate::reading::sketch_file;
-use cbsrun_io::{ByteOutput, write_pieces};
+use cbsrun_io::ByteOutput;
 use cbsrun_sized::{not_sized_text, sized_load};
 use std::alloc::Global;
 
@@ -64,16 +64,6 @@ pub fn size_bytes_within<O: ByteOutput, E: ByteOutput>(
         (O.closed out.new)
         (O.state out.old) (O.state out.new) (E.state err.old) (E.state err.new) result }
 {
-    let found = match size(alloc, memory, all, name, bytes, out) {
-        Ok(found) => found,
-        Err(stopped) => {
-            let closed = out.is_closed();
-            return status_of(alloc, memory, name, bytes, Err(stopped), closed, err);
-        }
-    };
-    let Some(why) = found else {
-        return DONE;
-    };
-    let _written = write_pieces(err, &[why.as_str()]);
-    ANSWER_IS_NO
+    let ended = size(alloc, memory, all, name, bytes, out);
+    status_or_lack(alloc, memory, name, bytes, ended, out.is_closed(), err)
 }

@@ -152,6 +152,17 @@ fn append_table_fault(page: &mut Page, spot: &Spot<'_>, kind: FileKind) {
     }
 }
 
+/// Appends the explanation of a fault in no table of the document. If it is at a step, it is in the tape after it.
+fn append_elsewhere(page: &mut Page, name: &str, fault: FileFault) {
+    let Place::Step(number) = fault.place else {
+        return page.push_kind(fault.kind);
+    };
+    page.push_number("error: entry ", number);
+    page.push(" of the tape is none that `step` may have\n  --> ");
+    page.push_printable(name);
+    page.push(": its server is not there, its number is out of range, or its bytes are no entry\n");
+}
+
 /// Appends the explanation of a fault in a document.
 pub(crate) fn append_fault(page: &mut Page, document: Document<'_>, fault: FileFault)
     ensures { (file : List ℕ) (top : Members) → IsDocument file top document.entry
@@ -164,7 +175,7 @@ pub(crate) fn append_fault(page: &mut Page, document: Document<'_>, fault: FileF
             }
             _ => append_table_fault(page, &spot, fault.kind),
         },
-        None => page.push_kind(fault.kind),
+        None => append_elsewhere(page, document.name, fault),
     }
 }
 

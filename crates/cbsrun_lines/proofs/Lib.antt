@@ -1,2 +1,3 @@
+mod LinesAgain
 pub mod Writers
 pub mod LineSteps

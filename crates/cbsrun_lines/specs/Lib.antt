@@ -1,4 +1,5 @@
 pub mod Lines
+pub mod Records
 pub mod Traces
 pub mod Writers
 -- what the clauses name of the libraries below

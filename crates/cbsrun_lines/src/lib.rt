@@ -4,8 +4,10 @@
 mod line;
 mod lines;
 mod run_error;
+mod theorem;
 mod trace;
 
 pub use lines::write_lines;
 pub use run_error::RunError;
+pub use theorem::all_lines_again;
 pub use trace::replay;

@@ -1,6 +1,6 @@
 -- What one entry of `step` spells. Each table is tested in four turns: unknown keys, missing keys, types of values, ranges
 -- of values. The `op` is tested before these.
-use Rattle.std.specs.Prelude.{ℕ, ℤ, if◌then◌else◌, unwrap_or, Result, Ok, Err, codes, bytes_eq, List, [], ◌∷◌}
+use Rattle.std.specs.Prelude.{ℕ, if◌then◌else◌, unwrap_or, Result, Ok, Err, codes, bytes_eq, List, [], ◌∷◌}
 use Rattle.cbs_rate.specs.Limits.{most_units}
 use Rattle.cbs_rules.specs.Rules.{clock_end}
 use Rattle.cbs_tape.specs.declared.entry.Entry.{Entry}

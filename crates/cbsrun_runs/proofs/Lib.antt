@@ -9,4 +9,4 @@ mod SeenSteps
 mod MadeSteps
 mod StepTurns
 mod Drawings
-mod ShownAgain
+pub mod ShownAgain

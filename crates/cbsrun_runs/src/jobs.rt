@@ -9,8 +9,8 @@ use crate::run::Run;
 use cbsrun_csv::CsvView;
 use std::alloc::{AllocError, Global};
 
-/// Returns the names of the servers of a run. The only error is out of memory.
-fn names_of<R: Run>(alloc: Global, run: &R) -> Result<Vec<String>, AllocError>
+/// Returns the names of the servers of a run, by number. The only error is out of memory.
+pub fn names_of<R: Run>(alloc: Global, run: &R) -> Result<Vec<String>, AllocError>
     ensures { IfOk result (λ names. map string_bytes names.items ≡ (R.run run.now).names) }
 {
     // Reading the modes gives the proof that each server has a name.

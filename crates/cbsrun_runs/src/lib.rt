@@ -18,7 +18,7 @@ mod within;
 
 pub use cbsrun_window::{NothingShown, shown_of};
 pub use end::end_of;
-pub use jobs::csv_of;
+pub use jobs::{csv_of, names_of};
 pub use load_steps::show_load;
 pub use picture::picture_of;
 pub use progress::{NoProgress, Progress};

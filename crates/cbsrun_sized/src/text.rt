@@ -6,45 +6,16 @@ use crate::given::given_in;
 use cbsrun_loads::Sketch;
 use cbsrun_proposals::Proposal;
 use cbsrun_simulate::{Range, SourceTerms};
-use cbsrun_text::{append_pair, mode_word};
-use cbsrun_time_texts::append_milliseconds;
+use cbsrun_text::mode_word;
+use cbsrun_toml_texts::{append_executor, append_number, append_ticks, append_time, append_word};
 use std::alloc::{AllocError, Global};
 
-/// Appends a line with a key and a number.
-fn append_number(text: &mut String, key: &str, number: u64) -> Result<(), AllocError> {
-    text.push_str(key)?;
-    append_pair(text, " = ", number)?;
-    text.push_str("\n")
-}
-
-/// Returns whether a number of ticks can be written as milliseconds: these are less than 10^9.
-fn is_short(tick: u64, ticks: u64) -> bool {
-    u128::from(tick) * u128::from(ticks) < 1_000_000_000_000_000
-}
-
-/// Appends a number of ticks: as a time, if the file says how long a tick is and the time is short enough for a file.
-fn append_ticks(text: &mut String, tick: Option<u64>, ticks: u64) -> Result<(), AllocError> {
-    match tick {
-        Some(tick) if is_short(tick, ticks) => {
-            text.push_str("\"")?;
-            append_milliseconds(text, tick, ticks)?;
-            text.push_str(" ms\"")
-        }
-        _ => append_pair(text, "", ticks),
-    }
-}
-
-/// Appends a line with a key and a number of ticks.
-fn append_time(
-    text: &mut String,
-    key: &str,
-    tick: Option<u64>,
-    ticks: u64,
-) -> Result<(), AllocError> {
-    text.push_str(key)?;
-    text.push_str(" = ")?;
-    append_ticks(text, tick, ticks)?;
-    text.push_str("\n")
+/// Appends the keys of the top table that are no arrays of tables.
+fn append_top(text: &mut String, sketch: &Sketch) -> Result<(), AllocError> {
+    text.push_str("load = 1\n")?;
+    append_executor(text, sketch.tick(), sketch.bound(), sketch.backlog())?;
+    append_time(text, "until", sketch.tick(), sketch.until())?;
+    append_number(text, "seed", sketch.seed())
 }
 
 /// Appends a line with a key and a range of ticks: one number, or the least and the greatest.
@@ -63,31 +34,6 @@ fn append_range(
     text.push_str(", ")?;
     append_ticks(text, tick, range.greatest())?;
     text.push_str("]\n")
-}
-
-/// Appends a line with a key and a text.
-fn append_word(text: &mut String, key: &str, word: &str) -> Result<(), AllocError> {
-    text.push_str(key)?;
-    text.push_str(" = \"")?;
-    text.push_str(word)?;
-    text.push_str("\"\n")
-}
-
-/// Appends the keys of the top table that are no arrays of tables.
-fn append_top(text: &mut String, sketch: &Sketch) -> Result<(), AllocError> {
-    text.push_str("load = 1\n")?;
-    if let Some(tick) = sketch.tick() {
-        text.push_str("tick = \"")?;
-        append_milliseconds(text, tick, 1)?;
-        text.push_str(" ms\"\n")?;
-    }
-    let bound = sketch.bound();
-    append_pair(text, "bound = [", bound.num())?;
-    append_pair(text, ", ", bound.den())?;
-    text.push_str("]\n")?;
-    append_number(text, "backlog", sketch.backlog())?;
-    append_time(text, "until", sketch.tick(), sketch.until())?;
-    append_number(text, "seed", sketch.seed())
 }
 
 /// Appends a server. A line in front of its reservation says if that is proposed.

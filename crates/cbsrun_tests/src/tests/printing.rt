@@ -5,8 +5,9 @@ ghost use Rattle.std.specs.Prelude.{◌≡◌};
 use super::fakes::{Memory, Outcome};
 use super::same;
 use cbsrun_commands::{
-    Changes, Drawing, Form, LoadReport, LoadSweep, NoProgress, RunDrawing, Seeds, SweepForm,
-    Window, check_bytes_within, draw_load_within, draw_tasks_within, report_bytes_within,
+    Changes, Drawing, Form, LoadReport, LoadSweep, NoProgress, RecordForm, RunDrawing, Seeds,
+    SweepForm, Window, check_bytes_within, draw_load_within, draw_tasks_within,
+    record_again_within, record_load_within, record_tasks_within, report_bytes_within,
     simulate_bytes_within, simulate_jobs_within, simulate_lines_within, sweep_bytes_within,
 };
 use std::alloc::Global;
@@ -26,6 +27,14 @@ step = [
   { op = \"run\" },
   { op = \"advance\", ticks = 3 },
 ]
+";
+
+/// A record of two steps.
+const RECORD: &str = "record = 1
+bound = [1, 1]
+backlog = 2
+server = [{ name = \"a\", mode = \"soft\", budget = 1, period = 2 }]
+step = [{ op = \"run\" }, { op = \"run\" }]
 ";
 
 /// A load with one server.
@@ -78,8 +87,11 @@ enum Asked {
     ReportLoad { form: Form, strict: bool },
     WriteLoadLines,
     WriteLoadJobs,
+    RecordLoad(RecordForm),
     SweepLoad,
     ReportTasks(Form),
+    RecordTasks(RecordForm),
+    RecordAgain(RecordForm),
     DrawLoad(RunDrawing),
     DrawTasks(RunDrawing),
 }
@@ -145,6 +157,15 @@ fn printed<R: Threads + Sync>(
             &mut out,
             &mut err,
         ),
+        Asked::RecordLoad(form) => {
+            record_load_within(alloc, memory, form, NONE, name, bytes, &mut out, &mut err)
+        }
+        Asked::RecordTasks(form) => {
+            record_tasks_within(alloc, memory, form, name, bytes, &mut out, &mut err)
+        }
+        Asked::RecordAgain(form) => {
+            record_again_within(alloc, memory, form, name, bytes, &mut out, &mut err)
+        }
         Asked::SweepLoad => {
             sweep_bytes_within(rt, 2, alloc, memory, SWEEP, name, bytes, &mut out, &mut err)
         }
@@ -205,7 +226,7 @@ type Printed = (Asked, &'static str, [&'static str; 3]);
 
 /// What is asked beside drawings. The whole answers are in `tests/checks.txt` and `tests/reports.txt`, at the top of the
 /// repository.
-const PRINTED: [Printed; 10] = [
+const PRINTED: [Printed; 13] = [
     (
         Asked::Check {
             form: Form::Report,
@@ -264,6 +285,33 @@ const PRINTED: [Printed; 10] = [
         Asked::WriteLoadLines,
         LOAD,
         ["@0 submit 0 ", "@2 advance 1\n", "@4 advance 1\n"],
+    ),
+    (
+        Asked::RecordLoad(RecordForm::Text),
+        LOAD,
+        [
+            "record = 1\nbound = [1, 1]\nbacklog = 2\nserver = [\n  { name = \"a\", mode = \"soft\",",
+            "{ op = \"submit\", server = 0, units = 1 },\n  { op = \"run\" },\n  { op = \"advance\"",
+            "{ op = \"advance\", ticks = 1 },\n]\n",
+        ],
+    ),
+    (
+        Asked::RecordTasks(RecordForm::Text),
+        TASKS,
+        [
+            "record = 1\n",
+            "name = \"server-0\", mode = \"soft\", budget = 1, period = 2 },\n]\n",
+            "{ op = \"advance\", ticks = 3 },\n]\n",
+        ],
+    ),
+    (
+        Asked::RecordAgain(RecordForm::Text),
+        RECORD,
+        [
+            "record = 1\n",
+            "name = \"a\", mode = \"soft\", budget = 1, period = 2 },\n]\n",
+            "step = [\n  { op = \"run\", times = 2 },\n]\n",
+        ],
     ),
     (
         Asked::ReportTasks(Form::Report),
@@ -368,6 +416,9 @@ fn a_writer_that_fails_has_a_prefix(rt: HostRuntime) {
         ),
         (Asked::WriteLoadLines, LOAD, "@0 su"),
         (Asked::WriteLoadJobs, LOAD, "serve"),
+        (Asked::RecordLoad(RecordForm::Text), LOAD, "recor"),
+        (Asked::RecordTasks(RecordForm::Tape), TASKS, "recor"),
+        (Asked::RecordAgain(RecordForm::Text), RECORD, "recor"),
         (Asked::ReportTasks(Form::Report), TASKS, "in ti"),
         (Asked::DrawLoad(svg), LOAD, "<svg "),
         (Asked::DrawTasks(trace), TASKS, "{\"dis"),
@@ -447,7 +498,9 @@ fn a_fault_is_explained_if_there_is_memory(rt: HostRuntime) {
         ),
         (Asked::WriteLoadLines, load),
         (Asked::WriteLoadJobs, load),
+        (Asked::RecordLoad(RecordForm::Tape), load),
         (Asked::SweepLoad, load),
+        (Asked::RecordTasks(RecordForm::Text), tasks),
         (Asked::ReportTasks(Form::Report), tasks),
         (Asked::DrawLoad(text), load),
         (Asked::DrawTasks(svg), tasks),

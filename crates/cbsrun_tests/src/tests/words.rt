@@ -3,8 +3,8 @@
 
 use super::same;
 use cbsrun_commands::{
-    Action, Changes, Drawing, Form, LoadReport, LoadSweep, RunDrawing, Seeds, SweepForm, Verb,
-    Window, WordsFault, read_words,
+    Action, Changes, Drawing, Form, Listing, LoadReport, LoadSweep, RunDrawing, Seeds, SweepForm,
+    Verb, Window, WordsFault, read_words,
 };
 use std::alloc::Global;
 use std::process::Abort;
@@ -131,7 +131,7 @@ fn a_report_takes_several_files(rt: HostRuntime) {
 }
 
 /// Command lines with a form, and what they ask for.
-const FORMS: [(&str, Action); 9] = [
+const FORMS: [(&str, Action); 13] = [
     ("cbsrun check --as report a.toml", CHECK),
     (
         "cbsrun check a.toml --as=json",
@@ -142,15 +142,31 @@ const FORMS: [(&str, Action); 9] = [
     ),
     (
         "cbsrun simulate --as csv a.toml",
-        Action::WriteLoadJobs(NONE),
+        Action::ListLoad(Listing::Csv, NONE),
     ),
     ("cbsrun simulate --as report a.toml", REPORT),
     ("cbsrun simulate a.toml --as json", JSON),
     (
         "cbsrun simulate --as lines a.toml",
-        Action::WriteLoadLines(NONE),
+        Action::ListLoad(Listing::Lines, NONE),
+    ),
+    (
+        "cbsrun simulate --as record a.toml",
+        Action::ListLoad(Listing::Record, NONE),
+    ),
+    (
+        "cbsrun simulate --as tape a.toml",
+        Action::ListLoad(Listing::Tape, NONE),
     ),
     ("cbsrun replay --as=lines a.toml", Action::Run(Verb::Replay)),
+    (
+        "cbsrun replay --as tape a.toml",
+        Action::RecordTasks { taped: true },
+    ),
+    (
+        "cbsrun replay a.toml --as record",
+        Action::RecordTasks { taped: false },
+    ),
     (
         "cbsrun replay a.toml --as=report",
         Action::ReportTasks(Form::Report),
@@ -305,10 +321,13 @@ const CHANGED: [(&str, Action); 7] = [
     ),
     (
         "cbsrun simulate --as lines --until 1 a.toml",
-        Action::WriteLoadLines(Changes {
-            seed: None,
-            until: Some(1),
-        }),
+        Action::ListLoad(
+            Listing::Lines,
+            Changes {
+                seed: None,
+                until: Some(1),
+            },
+        ),
     ),
     (
         "cbsrun check --strict a.toml",

@@ -5,6 +5,6 @@ use Rattle.cbsrun_check_text.proofs.check.numbered.Given as goal
 
 abbrev pub invariant-loop-server : goal.invariant-loop-server
 invariant-loop-server l = record {
-  names : map string_bytes l.names.items ≡ numbered l.server;
+  names : map string_bytes l.names.items ≡ numbered l.front l.server;
   count : length l.names.items ≡ l.server;
 }

@@ -1,0 +1,232 @@
+//! The steps of a house in a file, which `cbsrun replay FILE` makes again.
+//!
+//! ```
+//! use cbs::record::{Recorder, Settings};
+//! use cbs::{Mode, Plan};
+//!
+//! let mut plan = Plan::new();
+//! plan.admit(2, 5, Mode::Soft)?;
+//! let (mut house, mut clients) = plan.open(4, 4)?;
+//! # let path = std::env::temp_dir().join("cbs-record-doc.tape");
+//! let file = std::fs::File::create(&path)?;
+//! let mut recorder = Recorder::new(&mut house, file, &Settings::default())?; // before the first step
+//! clients[0].send("wash", 3)?;
+//! for _ in 0..3 {
+//!     house.turn();
+//!     recorder.step(&mut house); // now and then
+//! }
+//! recorder.end(&mut house)?;
+//! # std::fs::remove_file(&path)?;
+//! # Ok::<(), Box<dyn std::error::Error>>(())
+//! ```
+//!
+//! The file is a record with a tape: a text that says what the servers are, a zero byte, and then a byte or two for each step. What
+//! [`step`](Recorder::step) wrote is in the file also if the process is killed then; what it did not write is lost with the process.
+
+use crate::error::TapeError;
+use crate::ffi::Server;
+use crate::house::House;
+use std::fmt;
+use std::io::{self, Write};
+use std::time::Duration;
+
+/// What is told of a house beside its steps, and how much memory its tape has.
+#[derive(Clone, Debug, PartialEq, Eq)]
+pub struct Settings {
+    /// The names of the servers, by number: each of 1 to 32 letters, digits, `-` and `_`, and no two the same. A server with none
+    /// is called `server-0`, by its number.
+    pub names: Vec<String>,
+    /// How long a tick is, at most a second, if it has a length.
+    pub tick: Option<Duration>,
+    /// How many bytes the steps between two writes may take. A step takes 20 at most, and mostly 1 or 2.
+    pub bytes: u32,
+    /// How many ticks pass at least between two writes. With 0 each [`Recorder::step`] writes.
+    pub every: u64,
+}
+
+impl Default for Settings {
+    fn default() -> Settings {
+        Settings {
+            names: Vec::new(),
+            tick: None,
+            bytes: 1 << 16,
+            every: 0,
+        }
+    }
+}
+
+/// Writes the steps of a house.
+///
+/// An error of the writer ends the recording, and never the house.
+pub struct Recorder {
+    to: Option<Box<dyn Write + Send>>,
+    error: Option<io::Error>,
+    buffer: Vec<u8>,
+    bytes: u64,
+    every: u64,
+    /// The tick from which on a step writes again.
+    next: u64,
+}
+
+impl fmt::Debug for Recorder {
+    fn fmt(&self, f: &mut fmt::Formatter<'_>) -> fmt::Result {
+        f.debug_struct("Recorder")
+            .field("error", &self.error)
+            .field("bytes", &self.bytes)
+            .finish_non_exhaustive()
+    }
+}
+
+/// Returns the error of a name or a tick that no record may have.
+fn wrong(why: String) -> io::Error {
+    io::Error::new(io::ErrorKind::InvalidInput, why)
+}
+
+impl From<TapeError> for io::Error {
+    fn from(error: TapeError) -> io::Error {
+        let kind = match error {
+            TapeError::OutOfMemory => io::ErrorKind::OutOfMemory,
+            TapeError::NoTape => io::ErrorKind::NotConnected,
+        };
+        io::Error::new(kind, error)
+    }
+}
+
+impl Settings {
+    /// Returns the names of so many servers.
+    fn all_names(&self, servers: usize) -> io::Result<Vec<String>> {
+        let own = |server: usize| self.names.get(server).cloned();
+        let names: Vec<_> = (0..servers)
+            .map(|i| own(i).unwrap_or_else(|| format!("server-{i}")))
+            .collect();
+        let may_have = |byte: u8| byte.is_ascii_alphanumeric() || byte == b'-' || byte == b'_';
+        for (server, name) in names.iter().enumerate() {
+            if name.is_empty() || name.len() > 32 || !name.bytes().all(may_have) {
+                return Err(wrong(format!(
+                    "a name has 1 to 32 letters, digits, - and _, and not {name:?}"
+                )));
+            }
+            if names[..server].contains(name) {
+                return Err(wrong(format!("two servers are called {name}")));
+            }
+        }
+        Ok(names)
+    }
+
+    /// Returns the text of a record of a house with these servers and this backlog, and the zero byte after it.
+    fn head(&self, rates: &[Server], backlog: usize) -> io::Result<String> {
+        let mut text = String::from("record = 1\n");
+        match self.tick.map(|tick| tick.as_nanos()) {
+            None => {}
+            Some(1_000_000_000) => text += "tick = \"1 s\"\n",
+            Some(tick @ 1..=999_999_999) => text += &format!("tick = \"{tick} ns\"\n"),
+            Some(tick) => return Err(wrong(format!("a tick has 1 ns to 1 s, and not {tick} ns"))),
+        }
+        text += &format!("bound = [1, 1]\nbacklog = {backlog}\nserver = [\n");
+        for (rate, name) in rates.iter().zip(self.all_names(rates.len())?) {
+            let Server {
+                budget,
+                period,
+                mode,
+            } = *rate;
+            let mode = if mode == 0 { "soft" } else { "throttled" };
+            text += &format!("  {{ name = \"{name}\", mode = \"{mode}\", budget = {budget}, period = {period} }},\n");
+        }
+        Ok(text + "]\n\0")
+    }
+}
+
+/// Returns whether a house made no step yet.
+fn is_new<T>(house: &House<T>) -> bool {
+    let is_untouched =
+        |server| matches!(house.view(server), Ok(view) if view.accepted == 0 && !view.closed);
+    house.now() == 0 && (0..house.rates().len()).all(is_untouched)
+}
+
+impl Recorder {
+    /// Writes what the house is, and has it tell its steps from now on. Call this before its first step.
+    ///
+    /// # Errors
+    ///
+    /// A house that made a step before, a name or a tick that no record may have, no memory for a tape, or what the writer gave.
+    /// The house is then not recorded.
+    pub fn new<T>(
+        house: &mut House<T>,
+        to: impl Write + Send + 'static,
+        settings: &Settings,
+    ) -> io::Result<Recorder> {
+        if !is_new(house) {
+            return Err(wrong("the house made a step before".into()));
+        }
+        let head = settings.head(house.rates(), house.backlog())?;
+        let mut to: Box<dyn Write + Send> = Box::new(to);
+        to.write_all(head.as_bytes())?;
+        to.flush()?;
+        house.record(settings.bytes)?;
+        Ok(Recorder {
+            to: Some(to),
+            error: None,
+            buffer: Vec::with_capacity(settings.bytes as usize + 32),
+            bytes: 0,
+            every: settings.every,
+            next: 0,
+        })
+    }
+
+    /// Writes the steps that the house made since the last write, if as many ticks have passed as wanted. It waits as long as
+    /// one write does.
+    pub fn step<T>(&mut self, house: &mut House<T>) {
+        let now = house.now();
+        if now >= self.next {
+            self.next = now + self.every;
+            self.write(house, House::take_tape);
+        }
+    }
+
+    /// Writes the last steps, and the mark of the end, unless a step was lost. The house goes on with no tape.
+    ///
+    /// # Errors
+    ///
+    /// What the writer gave, now or before.
+    pub fn end<T>(mut self, house: &mut House<T>) -> io::Result<()> {
+        self.write(house, House::end_tape);
+        match self.error {
+            Some(error) => Err(error),
+            None => Ok(()),
+        }
+    }
+
+    /// Returns the error of the writer that ended the recording, if one did.
+    #[must_use]
+    pub fn error(&self) -> Option<&io::Error> {
+        self.error.as_ref()
+    }
+
+    /// Returns how many bytes of steps were written.
+    #[must_use]
+    pub fn bytes(&self) -> u64 {
+        self.bytes
+    }
+
+    /// Writes what is taken of the tape of a house in this way, unless an error ended the recording.
+    fn write<T>(
+        &mut self,
+        house: &mut House<T>,
+        take: fn(&mut House<T>, &mut Vec<u8>) -> Result<(), TapeError>,
+    ) {
+        let Some(to) = &mut self.to else { return };
+        self.buffer.clear();
+        let taken = take(house, &mut self.buffer).map_err(io::Error::from);
+        let written = taken
+            .and_then(|()| to.write_all(&self.buffer))
+            .and_then(|()| to.flush());
+        match written {
+            Ok(()) => self.bytes += self.buffer.len() as u64,
+            Err(error) => {
+                self.error = Some(error);
+                self.to = None;
+                house.forget_tape();
+            }
+        }
+    }
+}

@@ -1,0 +1,8 @@
+use Rattle.cbsrun_commands.specs.Records.{record_again, IsNotRecorded}
+use Rattle.cbsrun_commands.proofs.Endings.{ends_or_lacks}
+use Rattle.cbsrun_commands.proofs.run_records.record_again_within.Goals as goal
+
+pub returns : goal.returns
+returns g c =
+    rw (← c.is_closed.ensures) (ends_or_lacks (record_again) IsNotRecorded c.args.name.now c.args.bytes.now _ _ _ _ _ c.record_again-ended.result
+    c.status_or_lack.result c.record_again-ended.ensures c.status_or_lack.ensures)

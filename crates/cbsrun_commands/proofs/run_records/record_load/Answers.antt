@@ -1,0 +1,46 @@
+use Rattle.std.proofs.Common.{◌∙◌, ap, map, refl, string_bytes}
+use Rattle.std.proofs.lemmas.Result.{err_from_is_err_and}
+use Rattle.cbsrun_lines.proofs.Writers.{untouched}
+use Rattle.cbsrun_runs.proofs.ShownAgain.{shown_again}
+use Rattle.cbsrun_runs.specs.Loads.{run_of}
+use Rattle.cbsrun_commands.specs.Outputs.{changed_load}
+use Rattle.cbsrun_commands.specs.Records.{IsLoadRecord}
+use Rattle.cbsrun_commands.proofs.PrintedRecords.{printed_record, stopped_record}
+use Rattle.cbsrun_commands.proofs.run_records.record_load.Goals as goal
+
+pub returns-in_err-load : goal.returns-in_err-load
+returns-in_err-load g c =
+    let p = err_from_is_err_and c.from_residual.result c.from_residual.ensures.1 in
+    rw (p.1, p.2) (c.in_err-load.ensures, untouched _)
+
+pub returns-in_err-names : goal.returns-in_err-names
+returns-in_err-names g c =
+    let p = err_from_is_err_and c.from_residual-in_err-names.result c.from_residual-in_err-names.ensures.1 in
+    rw (p.1, p.2) (c.in_ok-load.load, c.in_ok-load.ensures, untouched _)
+
+pub returns-in_err-print_record : goal.returns-in_err-print_record
+returns-in_err-print_record g c =
+    let f = c.in_ok-load.load in
+    let p = err_from_is_err_and c.from_residual-in_err-print_record.result c.from_residual-in_err-print_record.ensures.1 in
+    rw (p.1, p.2) (stopped_record (changed_load c.args.changes) IsLoadRecord c.args.bytes.now f f.names _ (run_of f) _ c.in_ok-load.ensures
+    (λ t told. (
+      told,
+      shown_again f told.r c.backlog-backlog.ensures.lawful
+          (record { modes = told.modes; plan = told.plan; backlog = told.backlog; steps = told.steps }),
+    ))
+    c.print_record.result (g.O.ByteOutput.state c.args.out.now) (g.O.ByteOutput.state c.print_record.new.out)
+    (ap (map string_bytes) c.deref.ensures.value ∙ c.in_ok-names.ensures) refl c.print_record.ensures
+    c.in_err-print_record.field-0.0 c.in_err-print_record.was)
+
+pub returns : goal.returns
+returns g c =
+    let f = c.in_ok-load.load in
+    printed_record (changed_load c.args.changes) IsLoadRecord c.args.bytes.now f f.names _ (run_of f) _ c.in_ok-load.ensures
+    (λ t told. (
+      told,
+      shown_again f told.r c.backlog-backlog.ensures.lawful
+          (record { modes = told.modes; plan = told.plan; backlog = told.backlog; steps = told.steps }),
+    ))
+    c.print_record.result (g.O.ByteOutput.state c.args.out.now) (g.O.ByteOutput.state c.print_record.new.out)
+    (ap (map string_bytes) c.deref.ensures.value ∙ c.in_ok-names.ensures) refl c.print_record.ensures
+    c.in_ok-print_record.field-0 c.in_ok-print_record.was
