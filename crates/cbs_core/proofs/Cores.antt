@@ -237,7 +237,7 @@ module _ {W : Type 0} {work : Meaning W} {core : CoreHeld W} (ok : IsCore work c
   counted_run (job ∷ jobs) f some e = elim (cases_Bool (eqb (work.left (work.after job)) 0)) [ inl t ↦ rw t (omega arith) | inr n ↦ rw n (omega arith) ]
 
   -- what each core keeps, from what a step leaves of the servers and of their jobs
-  core_made : (clock : ℕ) (last : LastUnit) (faces : List Face) (queues : List (List W)) (rooms : List ℕ) → clock ≤ clock_end → reservations faces ≡ reservations core.faces
+  pub core_made : (clock : ℕ) (last : LastUnit) (faces : List Face) (queues : List (List W)) (rooms : List ℕ) → clock ≤ clock_end → reservations faces ≡ reservations core.faces
       → AllByRecursion (IsServer core.backlog clock) faces → AllZip (HoldsBacklog work) queues faces → IsLastUnit clock faces last
       → IsCore work (record { backlog = core.backlog; clock = clock; last = last; faces = faces; queues = queues; rooms = rooms })
   core_made clock last faces queues rooms early same each jobs known = record {

@@ -2,6 +2,7 @@ pub mod Agreement
 pub mod Calls
 pub mod Held
 pub mod Invariant
+pub mod Past
 pub mod Waiting
 -- what the clauses name of the libraries below
 pub use Rattle.cbs_lists.specs.Lists

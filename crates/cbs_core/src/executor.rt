@@ -1,8 +1,9 @@
 //! The core: all servers, and the clock.
 
-ghost use Rattle.std.specs.Prelude.{◌≡◌, ℕ, ◌+◌, ◌*◌, ◌<◌, ◌≤◌, ◌&&◌, not, eqb, true, false, IfOk, IfErr, IfSome, OnOk, OnErr, IsOk, length, slice_get, [], Some, None, MatchOption, MatchResult};
+ghost use Rattle.std.specs.Prelude.{◌≡◌, ℕ, ◌+◌, ◌*◌, ◌<◌, ◌≤◌, ◌&&◌, not, eqb, true, false, IfOk, IfErr, IfSome, OnOk, OnErr, IsOk, option_map, ◌∷◌, ◌++◌, length, slice_get, [], Some, None, MatchOption, MatchResult};
 ghost use Rattle.cbs_rate.specs.Refusals.{RefusesByOrMemory};
 ghost use Rattle.cbs_steps.specs.Quiet.{IsAtRest, IsIdleSpan};
+ghost use Rattle.cbs_lists.specs.Lists.{changed_at};
 ghost use Rattle.cbs_steps.specs.Choice.{IsChoice};
 ghost use Rattle.cbs_steps.specs.Faces.{face_at, ranks, view_reply, charges_reply};
 ghost use Rattle.cbs_steps.specs.History.{History, account, faces, chosen};
@@ -17,9 +18,11 @@ ghost use Rattle.cbs_steps.specs.Setups.{new_refusal, setup_of, history_of};
 ghost use Rattle.cbs_core.specs.Agreement.{Agrees, FollowsInHindsight, TellsOf};
 ghost use Rattle.cbs_core.specs.Calls.{AllPunctual, CompletesSteps, IsBefore, Makes, RefusesAsSubmit, Tries, TriesAll};
 ghost use Rattle.cbs_core.specs.Held.{room_of, KeepsRoom, IsOpen, HasRoom, IsRefusedBy, IsCoreOnTime, IsCorePaced, front_output, held_at, TakesJob, ClosesServer, OthersSame, AllSame, DoesRun, LeavesUnit, CountsOn, EndsJob, ended_at, running, is_running, may_end, end_refusal};
+ghost use Rattle.cbs_core.specs.Past.{past_of, restored, with_job_back, IsStill, MayRestore, MayGiveBack, MayBeLast};
 ghost use Rattle.cbs_rate.specs.Limits.{longest_period, most_servers};
 
 use crate::last_unit::LastUnit;
+use crate::past::{NotAState, Past};
 use crate::servers::Servers;
 use cbs_job::{Completion, Task, Work};
 use cbs_queues::Queues;
@@ -410,6 +413,113 @@ impl<W: Work, A: Allocator> Core<W, A> {
         ensures kept { KeepsRoom self.old.rooms self.new.rooms }
     {
         self.servers.close(server);
+    }
+
+    /// Returns what a server keeps, but for its unfinished jobs, or `None` if there is no such server.
+    pub fn past(&self, server: u16) -> Option<Past>
+        ensures { result ≡ option_map past_of (slice_get self.now.faces server) }
+    {
+        self.servers.past(server)
+    }
+
+    /// Returns what is known of the last unit.
+    pub fn last_unit(&self) -> LastUnit
+        ensures { result ≡ self.now.last }
+    {
+        self.last
+    }
+
+    /// Brings a server to what it was in the midst of a run, at the tick at which the clock stands. It must have no
+    /// unfinished job, and no server may run: so a core is brought to the state of a run after [`new`](Core::new) and an
+    /// [`advance`](Core::advance). Its unfinished jobs are given back after this, by [`give_back`](Core::give_back).
+    ///
+    /// Refuses what no server of a run is, and then changes nothing. A state that no run leads to may be taken: what is
+    /// proved of runs is not promised for it.
+    pub fn restore(&mut self, server: u16, past: &Past) -> Result<(), NotAState>
+        ensures state { OnOk result (self.new ≡ record self.old {
+          faces = changed_at (restored past.now) self.old.faces server;
+        }) }
+        ensures taken { MayRestore self.old server past.now → IsOk result }
+        ensures unchanged { OnErr result (self.new ≡ self.old) }
+    {
+        if !self.is_still() || !self.servers.may_have_been(server, past, self.clock) {
+            return Err(NotAState);
+        }
+        self.servers.restore(server, past);
+        Ok(())
+    }
+
+    /// Returns whether no server runs, and no job may be ended.
+    fn is_still(&self) -> bool
+        ensures sound { result ≡ true → IsStill self.now }
+        ensures whole { IsStill self.now → result ≡ true }
+    {
+        self.last.running(self.clock).is_none() && !self.last.unfinished
+    }
+
+    /// Gives a server of a restored core an unfinished job back, after those that it was given back before, with the units
+    /// that the job has left. No rule is applied: the server's budget and deadline stay.
+    ///
+    /// Hands the job back, and changes nothing but the room for jobs, if there is no such server, if it has never had a
+    /// deadline or has as many jobs as it may have, if a server runs, or if out of memory.
+    pub fn give_back(&mut self, server: u16, task: Task<W>) -> Result<(), Task<W>>
+        ensures state { OnOk result (self.new ≡ record self.old {
+          faces = changed_at with_job_back self.old.faces server;
+          queues = changed_at (λ jobs. jobs ++ task ∷ []) self.old.queues server;
+          rooms = self.new.rooms;
+        }) }
+        ensures taken { MayGiveBack self.old server → 0 < room_of self.old.rooms server
+            → IsOk result }
+        ensures unchanged { IfErr result (λ job. (job ≡ task)
+            × (self.new ≡ record self.old { rooms = self.new.rooms })) }
+        ensures kept { OnErr result (KeepsRoom self.old.rooms self.new.rooms) }
+    {
+        if !self.is_still() || !self.servers.may_give_back(server, self.backlog) {
+            return Err(task);
+        }
+        if self.queues.reserve(server).is_err() {
+            return Err(task);
+        }
+        self.put_back(server, task);
+        Ok(())
+    }
+
+    /// Gives a server an unfinished job back, for which there is room.
+    fn put_back(&mut self, server: u16, job: Task<W>)
+        requires may { MayGiveBack self.old server }
+        requires room { 0 < room_of self.old.rooms server }
+        ensures { self.new ≡ record self.old {
+          faces = changed_at with_job_back self.old.faces server;
+          queues = changed_at (λ jobs. jobs ++ job ∷ []) self.old.queues server;
+          rooms = self.new.rooms;
+        } }
+    {
+        self.queues.push(server, job);
+        self.servers.give_back(server);
+    }
+
+    /// Sets what is known of the last unit of a restored core, after its jobs were given back. Refuses what no core knows,
+    /// and then changes nothing.
+    pub fn restore_last(&mut self, last: LastUnit) -> Result<(), NotAState>
+        ensures state { OnOk result (self.new ≡ record self.old { last = last }) }
+        ensures taken { MayBeLast self.old last → IsOk result }
+        ensures unchanged { OnErr result (self.new ≡ self.old) }
+    {
+        if !self.may_be_last(last) {
+            return Err(NotAState);
+        }
+        self.last = last;
+        Ok(())
+    }
+
+    /// Returns whether this may be known of the last unit.
+    fn may_be_last(&self, last: LastUnit) -> bool
+        ensures sound { result ≡ true → MayBeLast self.now last }
+        ensures whole { MayBeLast self.now last → result ≡ true }
+    {
+        last.is_early(self.clock)
+            && (last.advanced_to == self.clock || self.servers.is_begun(last.server))
+            && (!last.unfinished || self.servers.is_unfinished(last.server, self.clock))
     }
 
     /// Returns the clock, in ticks: 0 to [`LIMIT`].

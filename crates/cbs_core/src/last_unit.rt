@@ -1,6 +1,6 @@
 //! The server of the last unit, what was charged for the unit, and whether its job is unfinished.
 
-ghost use Rattle.std.specs.Prelude.{◌≡◌, ◌+◌, ◌<◌, ◌^◌, ◌&&◌, not, eqb, false};
+ghost use Rattle.std.specs.Prelude.{◌≡◌, ◌+◌, ◌<◌, ◌≤◌, ◌^◌, ◌&&◌, not, eqb, false, true};
 ghost use Rattle.cbs_core.specs.Held.{is_some_of, runner_at, charged_at};
 
 /// The server of the last unit, what was charged for the unit, and whether its job is unfinished.
@@ -51,6 +51,16 @@ impl LastUnit {
         ensures { result ≡ is_some_of (runner_at now self.now) server }
     {
         self.advanced_to != now && self.server == server
+    }
+
+    /// Returns whether all of it is from tick `now` or before.
+    pub fn is_early(&self, now: u64) -> bool
+        ensures sound { result ≡ true → (self.now.advanced_to ≤ now) × (self.now.charged_to ≤ now)
+            × (self.now.charged ≤ now) }
+        ensures whole { self.now.advanced_to ≤ now → self.now.charged_to ≤ now
+            → self.now.charged ≤ now → result ≡ true }
+    {
+        self.advanced_to <= now && self.charged_to <= now && self.charged <= now
     }
 
     /// Records that `server` accepted a job.

@@ -4,6 +4,7 @@
 
 mod executor;
 mod last_unit;
+mod past;
 mod server;
 mod servers;
 mod waits;
@@ -13,3 +14,5 @@ pub use cbs_steps::{
     Charges, CoreError, Ran, Reply, ServerView, Step, StepsRefused, SubmitRefused,
 };
 pub use executor::{Core, MAX_BACKLOG};
+pub use last_unit::LastUnit;
+pub use past::{NotAState, Past};

@@ -2,9 +2,12 @@
 
 ghost use Rattle.std.specs.Prelude.{◌≡◌, ℕ, ◌+◌, ◌*◌, ◌<◌, ◌≤◌, ◌^◌, false, true, Some};
 ghost use Rattle.cbs_steps.specs.Faces.{new_face, is_active, is_ready, ready_by, backlog_of, refuses_close, refuses_submit, view_of, with_job, with_unit, with_charge, with_replenishment, with_close};
+ghost use Rattle.cbs_rules.specs.Rules.{IsState};
 ghost use Rattle.cbs_steps.specs.Promises.{promised_by};
 ghost use Rattle.cbs_core.specs.Held.{with_job_ended};
+ghost use Rattle.cbs_core.specs.Past.{past_of, restored, with_job_back, MayHaveBeen};
 
+use crate::past::Past;
 use cbs_rate::Reservation;
 use cbs_rules::{LIMIT, MAX_DEADLINE, Mode, ServerState};
 use cbs_steps::{Charges, CoreError, ServerView};
@@ -99,7 +102,7 @@ impl Server {
     }
 
     /// Returns the server's backlog: how many accepted jobs are not finished.
-    fn backlog(&self) -> u64
+    pub fn backlog(&self) -> u64
         ensures { result ≡ backlog_of self.now }
     {
         self.accepted - self.finished
@@ -259,5 +262,54 @@ impl Server {
         ensures { self.new ≡ with_close self.old }
     {
         self.closed = true;
+    }
+
+    /// Returns what the server keeps, but for its unfinished jobs.
+    pub fn past(&self) -> Past
+        ensures { result ≡ past_of self.now }
+    {
+        Past {
+            state: self.state,
+            charges: self.charges(),
+            closed: self.closed,
+            finished: self.finished(),
+        }
+    }
+
+    /// Returns whether the server has no unfinished job, and may have been in a past state at tick `now`.
+    pub fn may_have_been(&self, past: &Past, now: u64) -> bool
+        requires { now ≤ LIMIT }
+        ensures lawful { result ≡ true → IsState past.now.state.reservation past.now.state.state }
+        ensures sound { result ≡ true → MayHaveBeen now past.now self.now }
+        ensures whole { MayHaveBeen now past.now self.now → result ≡ true }
+    {
+        let latest = u128::from(now) + (u128::from(now) + 1) * 1_000_000_000;
+        !self.is_active()
+            && past.state.is_of(self.state.reservation())
+            && (self.mode == Mode::Throttled || !past.state.throttled())
+            && past.state.deadline() <= latest
+            && past.finished <= now
+            && past.charges.total <= now
+    }
+
+    /// Brings the server to a past state: each job that it accepted is finished.
+    pub fn restore(&mut self, past: &Past)
+        requires { past.now.state.reservation ≡ self.old.terms.reservation }
+        ensures { self.new ≡ restored past.now self.old }
+    {
+        self.state = past.state;
+        self.charged = past.charges.total;
+        self.most_charged = past.charges.most;
+        self.closed = past.closed;
+        self.accepted = past.finished;
+        self.finished = past.finished;
+    }
+
+    /// Counts one unfinished job more, which came before.
+    pub fn give_back(&mut self)
+        requires { self.old.accepted + 1 < 2 ^ 64 }
+        ensures { self.new ≡ with_job_back self.old }
+    {
+        self.accepted += 1;
     }
 }

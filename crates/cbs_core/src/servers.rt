@@ -2,19 +2,22 @@
 
 ghost use Rattle.std.specs.Prelude.{◌≡◌, ◌≢◌, ℕ, ◌+◌, ◌-◌, ◌<◌, ◌≤◌, ◌^◌, false, true, Some, option_map, IfOk, OnOk, MatchOption, length, map, slice_get};
 ghost use Rattle.cbs_rate.specs.Plan.{IsPlan};
+ghost use Rattle.cbs_rules.specs.Rules.{IsState};
 ghost use Rattle.cbs_lists.specs.Lists.{changed_at};
 ghost use Rattle.cbs_steps.specs.Choice.{chosen_among, IsChoice};
-ghost use Rattle.cbs_steps.specs.Faces.{new_face, face_at, is_active, ready_by, ranks, close_refusal, submit_refusal, view_reply, with_job, with_unit, with_charge, with_replenishment, with_close};
+ghost use Rattle.cbs_steps.specs.Faces.{new_face, face_at, is_active, ready_by, backlog_of, ranks, close_refusal, submit_refusal, view_reply, with_job, with_unit, with_charge, with_replenishment, with_close};
 ghost use Rattle.cbs_steps.specs.Waiting.{NoneReady, span_of};
 ghost use Rattle.cbs_steps.specs.Promises.{promised_by};
 ghost use Rattle.cbs_steps.specs.Servers.{MayCharge};
 ghost use Rattle.cbs_ready.specs.ReadyList.{listed, IsOrdered};
 ghost use Rattle.cbs_core.specs.Held.{with_job_ended};
-ghost use Rattle.cbs_core.specs.Invariant.{ListsReady};
+ghost use Rattle.cbs_core.specs.Past.{past_of, restored, with_job_back, MayHaveBeen};
+ghost use Rattle.cbs_core.specs.Invariant.{ListsReady, IsUnfinished};
 ghost use Rattle.cbs_core.specs.Waiting.{Keeps};
 ghost use Rattle.cbs_steps.specs.Setups.{terms_of};
 ghost use Rattle.cbs_rate.specs.Limits.{most_servers};
 
+use crate::past::Past;
 use crate::server::Server;
 use crate::waits::Waits;
 use cbs_rate::Plan;
@@ -231,6 +234,96 @@ impl<A: Allocator> Servers<A> {
             return;
         }
         self.ready.leave(server);
+        self.waits = waits_of(&self.servers);
+    }
+
+    /// Returns what a server keeps, but for its unfinished jobs, or `None` if there is no such server.
+    pub fn past(&self, server: u16) -> Option<Past>
+        ensures { result ≡ option_map past_of (slice_get self.now server) }
+    {
+        self.servers.get(usize::from(server)).map(|it| it.past())
+    }
+
+    /// Returns whether there is such a server, with no unfinished job, and it may have been in a past state at tick `now`.
+    pub fn may_have_been(&self, server: u16, past: &Past, now: u64) -> bool
+        requires { now ≤ LIMIT }
+        ensures within { result ≡ true → server < length self.now }
+        ensures lawful { result ≡ true → IsState past.now.state.reservation past.now.state.state }
+        ensures sound { result ≡ true → MayHaveBeen now past.now (face_at self.now server) }
+        ensures whole { server < length self.now → MayHaveBeen now past.now (face_at self.now server)
+            → result ≡ true }
+    {
+        if usize::from(server) >= self.servers.len() {
+            return false;
+        }
+        self.servers[usize::from(server)].may_have_been(past, now)
+    }
+
+    /// Brings a server with no unfinished job to a past state of its reservation.
+    #[tactic(auto, using(cbs_lists::proofs::Lists::written))]
+    pub fn restore(&mut self, server: u16, past: &Past)
+        requires within { server < length self.old }
+        requires idle { is_active (face_at self.old server) ≡ false }
+        requires reservation { past.now.state.reservation
+            ≡ (face_at self.old server).terms.reservation }
+        ensures { self.new ≡ changed_at (restored past.now) self.old server }
+    {
+        self.servers[usize::from(server)].restore(past);
+        self.waits = waits_of(&self.servers);
+    }
+
+    /// Returns whether a server can be given one unfinished job more, which came before: it has had its first deadline, and
+    /// has fewer unfinished jobs than `backlog`.
+    pub fn may_give_back(&self, server: u16, backlog: u64) -> bool
+        ensures within { result ≡ true → server < length self.now }
+        ensures begun { result ≡ true → 0 < (face_at self.now server).state.deadline }
+        ensures few { result ≡ true → backlog_of (face_at self.now server) < backlog }
+        ensures whole { server < length self.now → 0 < (face_at self.now server).state.deadline
+            → backlog_of (face_at self.now server) < backlog → result ≡ true }
+    {
+        if usize::from(server) >= self.servers.len() {
+            return false;
+        }
+        let it = &self.servers[usize::from(server)];
+        it.deadline() > 0 && it.backlog() < backlog
+    }
+
+    /// Returns whether there is such a server, and it has had a deadline.
+    pub fn is_begun(&self, server: u16) -> bool
+        ensures within { result ≡ true → server < length self.now }
+        ensures sound { result ≡ true → 0 < (face_at self.now server).state.deadline }
+        ensures whole { server < length self.now → 0 < (face_at self.now server).state.deadline
+            → result ≡ true }
+    {
+        if usize::from(server) >= self.servers.len() {
+            return false;
+        }
+        self.servers[usize::from(server)].deadline() > 0
+    }
+
+    /// Returns whether a server has an unfinished job, and fewer jobs are finished than ticks have passed.
+    pub fn is_unfinished(&self, server: u16, now: u64) -> bool
+        ensures sound { result ≡ true → IsUnfinished now (face_at self.now server) }
+        ensures whole { IsUnfinished now (face_at self.now server) → result ≡ true }
+    {
+        if usize::from(server) >= self.servers.len() {
+            return false;
+        }
+        let it = &self.servers[usize::from(server)];
+        it.is_active() && it.finished() < now
+    }
+
+    /// Counts one unfinished job more of a server, which came before.
+    #[tactic(auto, using(cbs_lists::proofs::Lists::written))]
+    pub fn give_back(&mut self, server: u16)
+        requires within { server < length self.old }
+        requires few { (face_at self.old server).accepted + 1 < 2 ^ 64 }
+        ensures { self.new ≡ changed_at with_job_back self.old server }
+    {
+        let it = &mut self.servers[usize::from(server)];
+        let was = it.ready_by();
+        it.give_back();
+        self.ready.follow(server, was, it.ready_by());
         self.waits = waits_of(&self.servers);
     }
 

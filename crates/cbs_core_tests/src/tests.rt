@@ -10,6 +10,7 @@ mod lists;
 mod memory;
 mod promises;
 mod rates;
+mod restored;
 mod rows;
 mod rules;
 mod scheduling;

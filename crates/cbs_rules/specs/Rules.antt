@@ -97,6 +97,11 @@ pub record IsState (r : Rate) (s : State) : Type 0 where
   pub below : s.overrun < r.budget
   pub clear : s.throttled ≡ false → s.overrun ≡ 0
 
+-- a server with the reservation may have this state in the midst of a run, whose clock is at its end or before
+pub record CanStand (r : Rate) (s : State) : Type 0 where
+  pub state : IsState r s
+  pub early : s.deadline ≤ latest_deadline + 1000000000
+
 -- what a server may still take, as if one that waits had been replenished already: so many ticks, and by when. A
 -- replenishment changes neither
 abbrev pub funds : Rate → State → ℕ

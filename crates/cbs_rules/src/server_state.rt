@@ -1,8 +1,8 @@
 //! Budget and deadline of one server, and the rules that change them.
 
-ghost use Rattle.std.specs.Prelude.{◌≡◌, ◌+◌, ◌*◌, ◌≤◌, ◌<◌, ℕ, true, false};
+ghost use Rattle.std.specs.Prelude.{◌≡◌, ◌+◌, ◌*◌, ◌≤◌, ◌<◌, ℕ, true, false, IfSome, IsSome};
 ghost use Rattle.cbs_rate.specs.Rate.{IsRate};
-ghost use Rattle.cbs_rules.specs.Rules.{clock_end, latest_deadline, fresh_state, after_arrival, after_unit, after_charge, after_charges, after_replenishment, is_renewed, after_ticks, IsState, IsPaid};
+ghost use Rattle.cbs_rules.specs.Rules.{clock_end, latest_deadline, fresh_state, after_arrival, after_unit, after_charge, after_charges, after_replenishment, is_renewed, after_ticks, IsState, IsPaid, CanStand};
 
 use crate::mode::Mode;
 use cbs_rate::Reservation;
@@ -50,6 +50,35 @@ impl ServerState {
             throttled: false,
             overrun: 0,
         }
+    }
+
+    /// Returns a server in the midst of a run, with this budget, deadline, mark and overrun. Returns `None` if no server with
+    /// the reservation ever has these, or if the deadline is later than [`MAX_DEADLINE`] plus the longest period.
+    pub fn at(
+        reservation: Reservation,
+        budget: u64,
+        deadline: u128,
+        throttled: bool,
+        overrun: u64,
+    ) -> Option<ServerState>
+        ensures at { IfSome result (λ s. s ≡ record {
+          reservation = reservation;
+          state = record { budget = budget; deadline = deadline; throttled = throttled; overrun = overrun };
+        }) }
+        ensures taken { CanStand reservation
+            (record { budget = budget; deadline = deadline; throttled = throttled; overrun = overrun })
+            → IsSome result }
+    {
+        if !can_stand(reservation, budget, deadline, throttled, overrun) {
+            return None;
+        }
+        Some(ServerState {
+            reservation,
+            budget,
+            deadline,
+            throttled,
+            overrun,
+        })
     }
 
     /// Applies the arrival of a job at the idle server, at tick `now`, at most [`LIMIT`]. The server must not be
@@ -223,6 +252,15 @@ impl ServerState {
         self.reservation
     }
 
+    /// Returns whether the server was given this reservation.
+    pub fn is_of(&self, reservation: Reservation) -> bool
+        ensures sound { result ≡ true → self.now.reservation ≡ reservation }
+        ensures whole { self.now.reservation ≡ reservation → result ≡ true }
+        ensures kept { IsState self.now.reservation self.now.state }
+    {
+        self.reservation == reservation
+    }
+
     /// Returns the ticks that the server may still use: at most Q, and 0 while it is throttled.
     pub fn budget(&self) -> u64
         ensures value { result ≡ self.now.state.budget }
@@ -252,4 +290,31 @@ impl ServerState {
     {
         self.overrun
     }
+}
+
+/// Returns whether a server with this reservation may have this budget, deadline, mark and overrun.
+fn can_stand(
+    reservation: Reservation,
+    budget: u64,
+    deadline: u128,
+    throttled: bool,
+    overrun: u64,
+) -> bool
+    ensures sound { result ≡ true → CanStand reservation
+        (record { budget = budget; deadline = deadline; throttled = throttled; overrun = overrun }) }
+    ensures whole { CanStand reservation
+        (record { budget = budget; deadline = deadline; throttled = throttled; overrun = overrun })
+        → result ≡ true }
+{
+    let greatest = reservation.budget();
+    if deadline == 0 {
+        return budget == 0 && !throttled && overrun == 0;
+    }
+    if deadline > MAX_DEADLINE + 1_000_000_000 {
+        return false;
+    }
+    if throttled {
+        return budget == 0 && overrun < greatest;
+    }
+    budget > 0 && budget <= greatest && overrun == 0
 }

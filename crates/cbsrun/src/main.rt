@@ -11,11 +11,12 @@ ghost use Rattle.cbsrun_io.specs.Writers.{MayWrite};
 use crate::bytes::{Unread, bytes_of, write_reason};
 use crate::lost::write_loss;
 use crate::progress::Teller;
+use cbsrun_command_line::{WordsFault, read_words};
 use cbsrun_commands::{
     Action, Asked, BAD_FILE, ByteOutput, DONE, Form, Listing, MEMORY_VARIABLE, Progress, RUN_FAULT,
-    RecordForm, RunError, SweepForm, ToWrite, Verb, WRONG_WORDS, WordsFault, check_bytes_within,
-    cut_after, draw_load_within, draw_record_within, draw_tasks_within, is_record, memory_bound,
-    read_words, record_again_within, record_load_within, record_tasks_within, replay_record_within,
+    RecordForm, RunError, SweepForm, ToWrite, Verb, WRONG_WORDS, check_bytes_within, cut_after,
+    draw_load_within, draw_record_within, draw_tasks_within, is_record, memory_bound,
+    record_again_within, record_load_within, record_tasks_within, replay_record_within,
     report_bytes_within, report_record_within, run_bytes_within, simulate_bytes_within,
     simulate_jobs_within, simulate_lines_within, size_bytes_within, sweep_bytes_within,
     write_pieces, write_read_fault, write_run_fault,

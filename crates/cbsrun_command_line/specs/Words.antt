@@ -2,10 +2,10 @@
 use Rattle.std.specs.Prelude.{◌≡◌, ◌⊎◌, List, length, [], codes, map, true, Option, Some, string_bytes, unwrap_or}
 use Rattle.clap.specs.declared.builder.action.ArgAction.TheVariants.{Append, SetTrue}
 use Rattle.clap.specs.Words.{App, Row, Rule, Text, all_of, fault_of, first_of, new_app, new_rule, subcommand_of, takes, with_rule, with_subcommand}
-use Rattle.cbsrun_command_line.specs.Actions.{action_name}
-use Rattle.cbsrun_command_line.specs.Options.{Said, Asks, are_enough}
+use Rattle.cbsrun_options.specs.Actions.{action_name}
+use Rattle.cbsrun_options.specs.Options.{Said, Asks, are_enough}
 use Rattle.cbsrun_command_line.specs.Faults.{TellsOfKinds}
-use Rattle.cbsrun_command_line.specs.declared.actions.Asked.{Asked}
+use Rattle.cbsrun_options.specs.declared.actions.Asked.{Asked}
 use Rattle.cbsrun_command_line.specs.declared.fault.WordsFault.{WordsFault}
 use Rattle.cbsrun_command_line.specs.declared.fault.WordsFault.TheVariants.{OutOfMemory}
 

@@ -4,20 +4,22 @@ ghost use Rattle.std.specs.Prelude.{◌≡◌, ◌≢◌, codes, IfOk, IfErr, Is
 ghost use Rattle.clap.specs.Words.{app_of, found_of, kind_of, rows_of, subcommand_rows_of};
 ghost use Rattle.clap.specs.declared.builder.command.Command.TheViews.{out-Command};
 ghost use Rattle.cbsrun_command_line.specs.Faults.{number_of, words_fault_number};
-ghost use Rattle.cbsrun_command_line.specs.Options.{said};
+ghost use Rattle.cbsrun_options.specs.Options.{said};
 ghost use Rattle.cbsrun_command_line.specs.Words.{command_line, checking, texts_in, said_in, simulating, sizing, replaying, on_file, on_files, in_a_form, with_changes, with_option, with_options, with_flag, with_verb, bare_program, IsAsked, Names, AreTaken, TellsOf};
 ghost use Rattle.cbsrun_command_line.specs.declared.fault.WordsFault.TheVariants.{OutOfMemory};
 
-use crate::actions::Asked;
 use crate::fault::WordsFault;
-use crate::options::{Options, action_of, are_enough, too_many_files, wrong_options};
 use crate::texts::{
     ABOUT, ALL, CHECK, CHECKS, FILES, FROM, GUIDE, IN_TIME, PROMISED, REPLAY, REPORTS, SEED, SEEDS,
     SERVE, SERVER, SIMULATE, SIZE, TO, TRACES, UNTIL, VERSION,
 };
+use cbsrun_options::{
+    Asked, Options, action_of, are_enough, several_files_text, wrong_options_text,
+};
 use clap::error::ErrorKind;
 use clap::{Arg, ArgAction, ArgMatches, Command, Error};
 use std::alloc::{AllocError, Global};
+use std::fmt::Write;
 
 /// Returns the verb of this name, which takes one file or several.
 fn on_files<'a>(alloc: Global, name: &'a str, about: &'a str) -> Result<Command<'a>, AllocError>
@@ -220,7 +222,15 @@ fn refused(alloc: Global, error: &Error) -> Result<WordsFault, AllocError>
 fn incomplete(alloc: Global) -> Result<WordsFault, AllocError>
     ensures { IfOk result (λ w. words_fault_number w ≡ 1) }
 {
-    let text = String::from_str(alloc, "cbsrun: a verb and a file are wanted\n")?;
+    let wanted = String::from_str(alloc, "cbsrun: a verb and a file are wanted\n")?;
+    Ok(WordsFault::Usage(wanted))
+}
+
+/// Returns the fault with this text, and below it how more is told of a command.
+fn usage(mut text: String, verb: &str) -> Result<WordsFault, AllocError>
+    ensures { IfOk result (λ w. words_fault_number w ≡ 1) }
+{
+    writeln!(text, "\nFor more information, try 'cbsrun {verb} --help'.")?;
     Ok(WordsFault::Usage(text))
 }
 
@@ -231,8 +241,15 @@ fn wrong_files(alloc: Global, verb: &str, files: usize) -> Result<WordsFault, Al
     if files == 0 {
         incomplete(alloc)
     } else {
-        too_many_files(alloc, verb)
+        usage(several_files_text(alloc)?, verb)
     }
+}
+
+/// Returns the fault of a command line whose options ask for no action.
+fn wrong_options(alloc: Global, verb: &str, options: Options<'_>) -> Result<WordsFault, AllocError>
+    ensures { IfOk result (λ w. words_fault_number w ≡ 1) }
+{
+    usage(wrong_options_text(alloc, verb, options)?, verb)
 }
 
 /// Returns copies of texts. The only error is out of memory.

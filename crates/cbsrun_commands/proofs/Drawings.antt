@@ -5,8 +5,8 @@ use Rattle.cbsrun_window.specs.Windows.{AnswersShown}
 use Rattle.cbsrun_window.specs.declared.window.Window.{Window}
 use Rattle.cbsrun_chart.specs.Chosen.{chosen, is_named}
 use Rattle.cbsrun_chart.specs.declared.picture.Drawn.{Drawn as Server}
-use Rattle.cbsrun_command_line.specs.Fits.{Fits}
-use Rattle.cbsrun_command_line.specs.declared.actions.Drawing.{Drawing}
+use Rattle.cbsrun_options.specs.Fits.{Fits}
+use Rattle.cbsrun_options.specs.declared.actions.Drawing.{Drawing}
 use Rattle.cbsrun_lines.specs.Writers.{Writer}
 use Rattle.cbsrun_lines.specs.declared.run_error.RunError.{RunError}
 use Rattle.cbsrun_commands.specs.Commands.{Tells}

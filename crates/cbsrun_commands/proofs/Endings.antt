@@ -5,7 +5,7 @@ use Rattle.cbsrun_tasks.specs.Spelling.{file}
 use Rattle.cbsrun_tasks.specs.TaskFiles.{File}
 use Rattle.cbsrun_toml_tables.specs.declared.fault.FileFault.{FileFault}
 use Rattle.cbsrun_runs.specs.Tasks.{clock_of_tasks}
-use Rattle.cbsrun_command_line.specs.declared.actions.Form.{Form}
+use Rattle.cbsrun_options.specs.declared.actions.Form.{Form}
 use Rattle.cbsrun_commands.specs.Outputs.{IsTaskReportText}
 use Rattle.cbsrun_lines.specs.Writers.{Writer, IsUntouched}
 use Rattle.cbsrun_lines.specs.declared.run_error.RunError.{RunError}

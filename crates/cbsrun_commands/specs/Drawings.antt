@@ -16,9 +16,9 @@ use Rattle.cbsrun_tasks.specs.TaskFiles.{File}
 use Rattle.cbsrun_runs.specs.Loads.{run_of}
 use Rattle.cbsrun_runs.specs.Runs.{Shown, IsPictureOf}
 use Rattle.cbsrun_runs.specs.Tasks.{clock_of_tasks, run_of_tasks}
-use Rattle.cbsrun_command_line.specs.declared.actions.Changes.{Changes}
-use Rattle.cbsrun_command_line.specs.declared.actions.Drawing.{Drawing}
-use Rattle.cbsrun_command_line.specs.declared.run_drawing.RunDrawing.{RunDrawing}
+use Rattle.cbsrun_options.specs.declared.actions.Changes.{Changes}
+use Rattle.cbsrun_options.specs.declared.actions.Drawing.{Drawing}
+use Rattle.cbsrun_options.specs.declared.run_drawing.RunDrawing.{RunDrawing}
 use Rattle.cbsrun_commands.specs.Commands.{Command, Does, IsClosedPipe, Tells}
 use Rattle.cbsrun_commands.specs.FaultLines.{run_line, nothing_shown_line, Explains, StopsPrinting}
 use Rattle.cbsrun_commands.specs.Outputs.{IsDrawn, changed_load}

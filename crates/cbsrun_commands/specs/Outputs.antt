@@ -1,7 +1,7 @@
 -- What each command reads, and what it prints.
 use Rattle.std.specs.Prelude.{ℕ, Bool, true, false, if◌then◌else◌, List, [], ◌++◌, codes, length, get_or, unwrap_or, Option, None, Result, ◌≡◌, Ok, Err}
 use Rattle.std.specs.List.{list_all}
-use Rattle.cbsrun_command_line.specs.declared.actions.Changes.{Changes}
+use Rattle.cbsrun_options.specs.declared.actions.Changes.{Changes}
 use Rattle.cbs_guarantee.specs.declared.source.NotPromised.{NotPromised}
 use Rattle.cbsrun_report_json.specs.Json.{all_in_time}
 use Rattle.cbsrun_simulate.specs.declared.terms.SourceTerms.{SourceTerms}
@@ -36,14 +36,14 @@ use Rattle.cbsrun_runs.specs.Runs.{Shown, IsReportOf}
 use Rattle.cbsrun_runs.specs.Tasks.{run_of_tasks}
 use Rattle.cbsrun_report_text.specs.Texts.{report_text}
 use Rattle.cbsrun_report_text.specs.declared.report.RunReport.{RunReport}
-use Rattle.cbsrun_command_line.specs.declared.actions.Form.{Form}
-use Rattle.cbsrun_command_line.specs.declared.actions.Form.TheVariants.{Report, Json}
+use Rattle.cbsrun_options.specs.declared.actions.Form.{Form}
+use Rattle.cbsrun_options.specs.declared.actions.Form.TheVariants.{Report, Json}
 use Rattle.cbsrun_chart.specs.declared.picture.Picture.{Picture}
 use Rattle.cbsrun_svg.specs.Pictures.{svg_text}
 use Rattle.cbsrun_timeline.specs.Timelines.{timeline_text}
 use Rattle.cbsrun_perfetto.specs.Traces.{IsTrace}
-use Rattle.cbsrun_command_line.specs.declared.actions.Drawing.{Drawing}
-use Rattle.cbsrun_command_line.specs.declared.actions.Drawing.TheVariants.{Svg, Text, Trace}
+use Rattle.cbsrun_options.specs.declared.actions.Drawing.{Drawing}
+use Rattle.cbsrun_options.specs.declared.actions.Drawing.TheVariants.{Svg, Text, Trace}
 
 -- the load of a top table, and what is told of its times that are no whole number of ticks
 abbrev pub checked_load : Members → Result AnyFile FileFault

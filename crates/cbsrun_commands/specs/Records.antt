@@ -1,9 +1,9 @@
 -- The commands on records, and those that print records: what each reads, and what it prints.
 use Rattle.std.specs.Prelude.{◌≡◌, [], ℕ, List, codes, length, map, Option, Some, None, Result, Ok, Err}
 use Rattle.cbsrun_check_text.specs.Checks.{numbered}
-use Rattle.cbsrun_command_line.specs.declared.actions.Changes.{Changes}
-use Rattle.cbsrun_command_line.specs.declared.actions.Form.{Form}
-use Rattle.cbsrun_command_line.specs.declared.run_drawing.RunDrawing.{RunDrawing}
+use Rattle.cbsrun_options.specs.declared.actions.Changes.{Changes}
+use Rattle.cbsrun_options.specs.declared.actions.Form.{Form}
+use Rattle.cbsrun_options.specs.declared.run_drawing.RunDrawing.{RunDrawing}
 use Rattle.cbsrun_lines.specs.Lines.{lines_of}
 use Rattle.cbsrun_lines.specs.Traces.{WritesSomeLines}
 use Rattle.cbsrun_records.specs.Records.{RecordFile}

@@ -1,9 +1,9 @@
 -- Many simulations of a load, and what is printed of them.
 use Rattle.std.specs.Prelude.{◌≡◌, ℕ, Bool, ◌+◌, ◌-◌, List}
-use Rattle.cbsrun_command_line.specs.declared.actions.LoadSweep.{LoadSweep}
-use Rattle.cbsrun_command_line.specs.declared.actions.Seeds.{Seeds}
-use Rattle.cbsrun_command_line.specs.declared.actions.SweepForm.{SweepForm}
-use Rattle.cbsrun_command_line.specs.declared.actions.SweepForm.TheVariants.{Report, Csv, Json}
+use Rattle.cbsrun_options.specs.declared.actions.LoadSweep.{LoadSweep}
+use Rattle.cbsrun_options.specs.declared.actions.Seeds.{Seeds}
+use Rattle.cbsrun_options.specs.declared.actions.SweepForm.{SweepForm}
+use Rattle.cbsrun_options.specs.declared.actions.SweepForm.TheVariants.{Report, Csv, Json}
 use Rattle.cbsrun_loads.specs.Loads.{LoadFile}
 use Rattle.cbsrun_sweeps.specs.Sweeps.{are_in_time, IsSweep}
 use Rattle.cbsrun_sweeps.specs.declared.sweep.Sweep.{Sweep}

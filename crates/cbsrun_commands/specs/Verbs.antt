@@ -17,8 +17,8 @@ use Rattle.cbsrun_lines.specs.Writers.{Writer, IsUntouched, FailsToWrite, Writes
 use Rattle.cbsrun_lines.specs.declared.run_error.RunError.{RunError}
 use Rattle.cbsrun_lines.specs.declared.run_error.RunError.TheVariants as run
 use Rattle.cbsrun_lines.specs.Traces.{trace, LinesStop}
-use Rattle.cbsrun_command_line.specs.declared.actions.Verb.{Verb}
-use Rattle.cbsrun_command_line.specs.declared.actions.Verb.TheVariants.{Replay, Serve}
+use Rattle.cbsrun_options.specs.declared.actions.Verb.{Verb}
+use Rattle.cbsrun_options.specs.declared.actions.Verb.TheVariants.{Replay, Serve}
 use Rattle.cbsrun_tasks.specs.Spelling.{file}
 use Rattle.cbsrun_toml_tables.specs.Documents.{no_memory}
 use Rattle.cbsrun_toml_tables.specs.declared.fault.FileFault.{FileFault}

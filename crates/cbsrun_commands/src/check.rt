@@ -10,7 +10,7 @@ ghost use Rattle.cbsrun_toml_tables.specs.Documents.{no_memory};
 ghost use Rattle.cbsrun_toml_tables.specs.Fields.{Gives};
 ghost use Rattle.cbsrun_commands.specs.Outputs.{all_promised, any_file, check_command, checked_load, load_or_tasks, is_promised, ArePromised, AreSourcesPromised, IsCheckIn, IsCheckText, IsLoadCheck};
 ghost use Rattle.cbsrun_commands.specs.Commands.{Does, EndsCheck};
-ghost use Rattle.cbsrun_command_line.specs.declared.actions.Form.TheVariants.{Json};
+ghost use Rattle.cbsrun_options.specs.declared.actions.Form.TheVariants.{Json};
 ghost use Rattle.cbsrun_lines.specs.Writers.{MayWrite};
 
 use crate::ending::{Stopped, print, status_of_check};
@@ -18,7 +18,7 @@ use crate::reading::record_file;
 use cbs_guarantee::NotPromised;
 use cbsrun_check_json::{check_json, check_plan_json};
 use cbsrun_check_text::{check_load, check_plan, numbered};
-use cbsrun_command_line::Form;
+use cbsrun_options::Form;
 use cbsrun_io::ByteOutput;
 use cbsrun_loads::{Load, load_in};
 use cbsrun_records::{Record, is_record};

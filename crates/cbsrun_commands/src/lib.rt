@@ -22,15 +22,15 @@ mod servers;
 mod size;
 mod sweeps;
 
-pub use cbsrun_command_line::{
-    Action, Asked, Changes, Drawing, Form, Listing, LoadReport, LoadSweep, RunDrawing, Seeds,
-    SweepForm, Verb, Window, WordsFault, read_words,
-};
 pub use cbsrun_io::{
     ByteInput, ByteOutput, FromRead, MAX_BYTES, ReadError, ToWrite, read_all, write_pieces,
     write_text,
 };
 pub use cbsrun_lines::{RunError, replay};
+pub use cbsrun_options::{
+    Action, Asked, Changes, Drawing, Form, Listing, LoadReport, LoadSweep, RunDrawing, Seeds,
+    SweepForm, Verb, Window,
+};
 pub use cbsrun_records::{cut_after, is_record};
 pub use cbsrun_run_records::RecordForm;
 pub use cbsrun_runs::{NoProgress, Progress};

@@ -1,7 +1,7 @@
 //! Pictures of loads and task files: from their bytes to a status.
 
 ghost use Rattle.std.specs.Prelude.{◌≤◌, IfOk, length, map, string_bytes};
-ghost use Rattle.cbsrun_command_line.specs.Fits.{Fits};
+ghost use Rattle.cbsrun_options.specs.Fits.{Fits};
 ghost use Rattle.cbsrun_commands.specs.Drawings.{Draws, EndsDrawing, IsDrawingOfThose, PrintsDrawing, load_drawer, task_drawer};
 ghost use Rattle.cbsrun_commands.specs.FaultLines.{Prints};
 ghost use Rattle.cbsrun_commands.specs.Outputs.{IsDrawn};
@@ -12,7 +12,7 @@ use crate::ending::{Stopped, print};
 use crate::reading::{load_file, task_file};
 use crate::servers::no_server;
 use cbsrun_chart::{Picture, Window};
-use cbsrun_command_line::{Changes, Drawing, RunDrawing};
+use cbsrun_options::{Changes, Drawing, RunDrawing};
 use cbsrun_io::ByteOutput;
 use cbsrun_lines::RunError;
 use cbsrun_perfetto::trace_json;

@@ -10,7 +10,7 @@ ghost use Rattle.cbsrun_lines.specs.Writers.{MayWrite};
 
 use crate::ending::{Stopped, print, status_by_answer, status_of};
 use crate::reading::{load_file, task_file};
-use cbsrun_command_line::{Form, LoadReport};
+use cbsrun_options::{Form, LoadReport};
 use cbsrun_io::ByteOutput;
 use cbsrun_lines::RunError;
 use cbsrun_loads::Load;

@@ -7,7 +7,7 @@ use crate::ending::{BAD_FILE, DONE, RUN_FAULT};
 use crate::fault_lines::{write_file_fault, write_run_fault};
 use crate::reading::task_file;
 use crate::serve::serve_file;
-use cbsrun_command_line::Verb;
+use cbsrun_options::Verb;
 use cbsrun_io::ByteOutput;
 use cbsrun_lines::{RunError, replay};
 use cbsrun_tasks::{MEMORY, TaskFile};

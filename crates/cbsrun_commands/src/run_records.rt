@@ -8,7 +8,7 @@ ghost use Rattle.cbsrun_lines.specs.Writers.{MayWrite};
 use crate::check::numbers;
 use crate::ending::{Stopped, status_or_lack};
 use crate::reading::{load_file, record_file, task_file};
-use cbsrun_command_line::Changes;
+use cbsrun_options::Changes;
 use cbsrun_io::{ByteOutput, write_text};
 use cbsrun_lines::RunError;
 use cbsrun_run_records::{NotRecorded, RecordForm, recorded_run};

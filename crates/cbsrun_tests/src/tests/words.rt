@@ -2,9 +2,10 @@
 //! `scripts/statuses`.
 
 use super::same;
+use cbsrun_command_line::{WordsFault, read_words};
 use cbsrun_commands::{
     Action, Changes, Drawing, Form, Listing, LoadReport, LoadSweep, RunDrawing, Seeds, SweepForm,
-    Verb, Window, WordsFault, read_words,
+    Verb, Window,
 };
 use std::alloc::Global;
 use std::process::Abort;

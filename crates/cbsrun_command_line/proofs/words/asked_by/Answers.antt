@@ -10,7 +10,7 @@ use Rattle.clap.specs.declared.parser.matches.ArgMatches.{ArgMatches}
 use Rattle.clap.proofs.OnLiterals.{clap_on_literals}
 use Rattle.cbsrun_command_line.specs.Faults.{HasNumberOf, TellsOfKinds, number_of, words_fault_number}
 use Rattle.cbsrun_command_line.specs.Words.{command_line, IsAsked, AreTaken}
-use Rattle.cbsrun_command_line.specs.declared.actions.Asked.{Asked}
+use Rattle.cbsrun_options.specs.declared.actions.Asked.{Asked}
 use Rattle.cbsrun_command_line.specs.declared.fault.WordsFault.{WordsFault}
 use Rattle.cbsrun_command_line.specs.declared.fault.WordsFault.TheVariants.{Usage, Help, OutOfMemory}
 use Rattle.cbsrun_command_line.proofs.words.asked_by.Goals as goal

@@ -3,10 +3,10 @@ use Rattle.std.specs.Prelude.{option_map}
 use Rattle.std.proofs.lemmas.Bool.{true≢false}
 use Rattle.std.proofs.lemmas.List.{length-map}
 use Rattle.clap.specs.Words.{Row, Text, subcommand_rows_of, rows_of, found_of}
-use Rattle.cbsrun_command_line.specs.Actions.{action_name}
-use Rattle.cbsrun_command_line.specs.Options.{Said, Asks, are_enough}
+use Rattle.cbsrun_options.specs.Actions.{action_name}
+use Rattle.cbsrun_options.specs.Options.{Said, Asks, are_enough}
 use Rattle.cbsrun_command_line.specs.Words.{said_in}
-use Rattle.cbsrun_command_line.specs.declared.actions.Action.{Action}
+use Rattle.cbsrun_options.specs.declared.actions.Action.{Action}
 use Rattle.cbsrun_command_line.proofs.words.asked_in.Goals as goal
 
 -- the name and the rows, which two calls returned, together

@@ -1,6 +1,6 @@
 use Rattle.std.proofs.Common.{◌≡◌, ◌∙◌, ◌≤◌, List, ℕ, ap, arith, length, map, string_bytes, subst, sym}
 use Rattle.cbsrun_lines.proofs.Writers.{untouched}
-use Rattle.cbsrun_command_line.specs.Fits.{Fits}
+use Rattle.cbsrun_options.specs.Fits.{Fits}
 use Rattle.cbsrun_window.specs.declared.window.Window.{Window}
 use Rattle.cbsrun_commands.specs.Outputs.{IsDrawn}
 use Rattle.cbsrun_commands.proofs.Drawings.{chosen_few}

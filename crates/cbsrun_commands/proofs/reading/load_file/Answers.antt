@@ -3,7 +3,7 @@ use Rattle.cbsrun_loads.specs.Spelling.{load}
 use Rattle.cbsrun_toml_tables.specs.Documents.{no_memory}
 use Rattle.cbsrun_toml_tables.specs.Fields.{seen}
 use Rattle.cbsrun_toml_tables.specs.declared.fault.FileFault.{FileFault}
-use Rattle.cbsrun_command_line.specs.declared.actions.Changes.{Changes}
+use Rattle.cbsrun_options.specs.declared.actions.Changes.{Changes}
 use Rattle.cbsrun_commands.specs.Outputs.{changed, changed_load}
 use Rattle.cbsrun_commands.proofs.reading.load_file.Goals as goal
 

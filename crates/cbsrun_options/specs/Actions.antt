@@ -1,17 +1,17 @@
 -- The names of actions and forms.
 use Rattle.std.specs.Prelude.{ℕ, List, codes}
-use Rattle.cbsrun_command_line.specs.declared.actions.Action.{Action}
-use Rattle.cbsrun_command_line.specs.declared.actions.Action.TheVariants as action
-use Rattle.cbsrun_command_line.specs.declared.actions.Drawing.{Drawing}
-use Rattle.cbsrun_command_line.specs.declared.actions.Drawing.TheVariants.{Svg, Text, Trace}
-use Rattle.cbsrun_command_line.specs.declared.actions.Form.{Form}
-use Rattle.cbsrun_command_line.specs.declared.actions.Form.TheVariants.{Report, Json}
-use Rattle.cbsrun_command_line.specs.declared.actions.Listing.{Listing}
-use Rattle.cbsrun_command_line.specs.declared.actions.Listing.TheVariants.{Lines, Csv, Record, Tape}
-use Rattle.cbsrun_command_line.specs.declared.actions.SweepForm.{SweepForm}
-use Rattle.cbsrun_command_line.specs.declared.actions.SweepForm.TheVariants as sweep
-use Rattle.cbsrun_command_line.specs.declared.actions.Verb.{Verb}
-use Rattle.cbsrun_command_line.specs.declared.actions.Verb.TheVariants.{Replay, Serve}
+use Rattle.cbsrun_options.specs.declared.actions.Action.{Action}
+use Rattle.cbsrun_options.specs.declared.actions.Action.TheVariants as action
+use Rattle.cbsrun_options.specs.declared.actions.Drawing.{Drawing}
+use Rattle.cbsrun_options.specs.declared.actions.Drawing.TheVariants.{Svg, Text, Trace}
+use Rattle.cbsrun_options.specs.declared.actions.Form.{Form}
+use Rattle.cbsrun_options.specs.declared.actions.Form.TheVariants.{Report, Json}
+use Rattle.cbsrun_options.specs.declared.actions.Listing.{Listing}
+use Rattle.cbsrun_options.specs.declared.actions.Listing.TheVariants.{Lines, Csv, Record, Tape}
+use Rattle.cbsrun_options.specs.declared.actions.SweepForm.{SweepForm}
+use Rattle.cbsrun_options.specs.declared.actions.SweepForm.TheVariants as sweep
+use Rattle.cbsrun_options.specs.declared.actions.Verb.{Verb}
+use Rattle.cbsrun_options.specs.declared.actions.Verb.TheVariants.{Replay, Serve}
 
 -- the word of each verb
 abbrev pub name_of : Verb → List ℕ

@@ -1,6 +1,6 @@
 //! The drawing of a run that a command line asks for.
 
-ghost use Rattle.cbsrun_command_line.specs.Fits.{Fits};
+ghost use Rattle.cbsrun_options.specs.Fits.{Fits};
 
 use crate::actions::Drawing;
 use cbsrun_window::Window;

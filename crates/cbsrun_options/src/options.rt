@@ -1,16 +1,14 @@
 //! The options of a command, and what they ask for.
 
-ghost use Rattle.std.specs.Prelude.{◌≡◌, codes, option_map, IfOk, None, Some};
-ghost use Rattle.cbsrun_command_line.specs.Actions.{drawing_name, form_name, listing_name, sweep_form_name};
-ghost use Rattle.cbsrun_command_line.specs.Faults.{words_fault_number};
-ghost use Rattle.cbsrun_command_line.specs.Fits.{most_ticks};
-ghost use Rattle.cbsrun_command_line.specs.Options.{AnswersFit, AsksChanges, AsksDrawing, AsksFor, AsksPlainly, AsksSeeds, AsksTicks, Finds, after_dot, around_dot, IsNumber, IsTick, is_for_drawings, is_given, is_report, are_enough, last_end, said, seeds_in, text_of};
+ghost use Rattle.std.specs.Prelude.{◌≡◌, codes, option_map, None, Some};
+ghost use Rattle.cbsrun_options.specs.Actions.{drawing_name, form_name, listing_name, sweep_form_name};
+ghost use Rattle.cbsrun_options.specs.Fits.{most_ticks};
+ghost use Rattle.cbsrun_options.specs.Options.{AnswersFit, AsksChanges, AsksDrawing, AsksFor, AsksPlainly, AsksSeeds, AsksTicks, Finds, after_dot, around_dot, IsNumber, IsTick, is_for_drawings, is_given, is_report, are_enough, last_end, said, seeds_in, text_of};
 
 use crate::actions::{
     Action, Changes, Drawing, Form, LAST_END, Listing, LoadReport, LoadSweep, MOST_RUNS, MOST_SEED,
     Seeds, SweepForm, Verb,
 };
-use crate::fault::WordsFault;
 use crate::run_drawing::RunDrawing;
 use cbsrun_window::{MOST_TICKS, Window, WindowError};
 use std::alloc::{AllocError, Global};
@@ -19,7 +17,7 @@ use std::fmt::Write;
 /// The texts of the options of a command. Those of an option that is not there, or that the command does not have, are
 /// `None`.
 #[derive(Clone, Copy)]
-pub(crate) struct Options<'a> {
+pub struct Options<'a> {
     /// The form of the output.
     pub form: Option<&'a str>,
     /// The first tick to show.
@@ -366,7 +364,7 @@ fn checked_with(options: Options<'_>) -> Option<Action>
 }
 
 /// Returns the action of the command with this name and these options, or `None` if there is none.
-pub(crate) fn action_of(name: &str, options: Options<'_>) -> Option<Action>
+pub fn action_of(name: &str, options: Options<'_>) -> Option<Action>
     ensures { Finds result (AsksFor name.now (said options.entry)) }
 {
     match name {
@@ -519,40 +517,26 @@ fn is_report(form: Option<&str>) -> bool
 }
 
 /// Returns whether there is a file, and several only if the output is a report.
-pub(crate) fn are_enough(options: Options<'_>, files: usize) -> bool
+pub fn are_enough(options: Options<'_>, files: usize) -> bool
     ensures { result ≡ are_enough (said options.entry) files }
 {
     files == 1 || files > 1 && is_report(options.form)
 }
 
-/// Returns the fault with this text, and below it how more is told of a command.
-fn usage(mut text: String, verb: &str) -> Result<WordsFault, AllocError>
-    ensures { IfOk result (λ w. words_fault_number w ≡ 1) }
-{
-    writeln!(text, "\nFor more information, try 'cbsrun {verb} --help'.")?;
-    Ok(WordsFault::Usage(text))
+/// Returns why several files make no request: the output can tell of one alone. The only error is out of memory.
+pub fn several_files_text(alloc: Global) -> Result<String, AllocError> {
+    String::from_str(
+        alloc,
+        "error: several files go with '--as report' and '--as json' alone\n",
+    )
 }
 
-/// Returns the fault of a command line with several files, whose output can tell of one alone.
-pub(crate) fn too_many_files(alloc: Global, verb: &str) -> Result<WordsFault, AllocError>
-    ensures { IfOk result (λ w. words_fault_number w ≡ 1) }
-{
-    let mut text = String::new(alloc);
-    writeln!(
-        text,
-        "error: several files go with '--as report' and '--as json' alone"
-    )?;
-    usage(text, verb)
-}
-
-/// Returns the fault of a command line whose options ask for no action.
-pub(crate) fn wrong_options(
+/// Returns why these options ask for no action of a command. The only error is out of memory.
+pub fn wrong_options_text(
     alloc: Global,
     verb: &str,
     options: Options<'_>,
-) -> Result<WordsFault, AllocError>
-    ensures { IfOk result (λ w. words_fault_number w ≡ 1) }
-{
+) -> Result<String, AllocError> {
     let mut text = String::new(alloc);
     if let Some(seeds) = options.seeds {
         append_wrong_sweep(&mut text, seeds, options)?;
@@ -563,5 +547,5 @@ pub(crate) fn wrong_options(
     } else {
         append_wrong_form(&mut text, verb, options)?;
     }
-    usage(text, verb)
+    Ok(text)
 }

@@ -1,27 +1,29 @@
 -- The options of a command, and what they ask for.
-use Rattle.std.specs.Prelude.{◌≡◌, ⊤, ℕ, Bool, false, true, ◌+◌, ◌<◌, ◌≤◌, ◌^◌, eqb, ltb, length, min, bytes_eq, codes, if◌then◌else◌, MatchOption, option_map}
-use Rattle.std.specs.Prelude.{◌||◌, ◌&&◌, is_some, option_and_then, Option, Some, None, Result}
+use Rattle.std.specs.Prelude.{◌≡◌, ⊤, ℕ, Bool, false, true, ◌==◌, ◌+◌, ◌<◌, ◌≤◌, ◌^◌, eqb, ltb, length, min, bytes_eq, codes, if◌then◌else◌, MatchOption, option_map}
+use Rattle.std.specs.Prelude.{List, [], ◌∷◌, ◌||◌, ◌&&◌, is_some, option_and_then, Option, Some, None, Result}
 use Rattle.std.specs.List.{position_or_len, before_first, after_first}
 use Rattle.std.specs.Borrow.{Bor}
 use Rattle.std.specs.Str.Parse.{IsNumeral, digits_value, without_leading_plus}
-use Rattle.clap.specs.Lexer.{strip_byte}
-use Rattle.clap.specs.Words.{Text}
 use Rattle.cbsrun_window.specs.Windows.{AnswersLong, AnswersWindow}
 use Rattle.cbsrun_window.specs.declared.window.Window.{Window}
 use Rattle.cbsrun_window.specs.declared.window.WindowError.{WindowError}
-use Rattle.cbsrun_command_line.specs.Fits.{Fits, most_ticks}
-use Rattle.cbsrun_command_line.specs.Actions.{action_name, drawing_name, form_name, listing_name, sweep_form_name}
-use Rattle.cbsrun_command_line.specs.declared.actions.Action.{Action}
-use Rattle.cbsrun_command_line.specs.declared.actions.Action.TheVariants as action
-use Rattle.cbsrun_command_line.specs.declared.actions.Changes.{Changes}
-use Rattle.cbsrun_command_line.specs.declared.actions.Form.TheVariants.{Report}
-use Rattle.cbsrun_command_line.specs.declared.actions.Drawing.{Drawing}
-use Rattle.cbsrun_command_line.specs.declared.actions.Drawing.TheVariants.{Trace}
-use Rattle.cbsrun_command_line.specs.declared.run_drawing.RunDrawing.{RunDrawing}
-use Rattle.cbsrun_command_line.specs.declared.actions.Seeds.{Seeds}
-use Rattle.cbsrun_command_line.specs.declared.actions.SweepForm.TheVariants.{Report as ManyReport}
-use Rattle.cbsrun_command_line.specs.declared.actions.Verb.TheVariants.{Replay, Serve}
-use Rattle.cbsrun_command_line.specs.declared.options.Options.{Options}
+use Rattle.cbsrun_options.specs.Fits.{Fits, most_ticks}
+use Rattle.cbsrun_options.specs.Actions.{action_name, drawing_name, form_name, listing_name, sweep_form_name}
+use Rattle.cbsrun_options.specs.declared.actions.Action.{Action}
+use Rattle.cbsrun_options.specs.declared.actions.Action.TheVariants as action
+use Rattle.cbsrun_options.specs.declared.actions.Changes.{Changes}
+use Rattle.cbsrun_options.specs.declared.actions.Form.TheVariants.{Report}
+use Rattle.cbsrun_options.specs.declared.actions.Drawing.{Drawing}
+use Rattle.cbsrun_options.specs.declared.actions.Drawing.TheVariants.{Trace}
+use Rattle.cbsrun_options.specs.declared.run_drawing.RunDrawing.{RunDrawing}
+use Rattle.cbsrun_options.specs.declared.actions.Seeds.{Seeds}
+use Rattle.cbsrun_options.specs.declared.actions.SweepForm.TheVariants.{Report as ManyReport}
+use Rattle.cbsrun_options.specs.declared.actions.Verb.TheVariants.{Replay, Serve}
+use Rattle.cbsrun_options.specs.declared.options.Options.{Options}
+
+-- a text, by its bytes
+abbrev pub Text : Type 0
+Text = List ℕ
 
 -- the value of which this is true, or none if it is true of no value
 abbrev pub Finds : {A : Type 0} → Option A → (A → Type 0) → Type 0
@@ -127,7 +129,8 @@ around_dot text =
 
 -- what stands after the dot that a text begins with
 abbrev pub after_dot : Text → Option Text
-after_dot text = strip_byte 46 text
+after_dot [] = None
+after_dot (c ∷ rest) = if c == 46 then Some rest else None
 
 -- the two texts of A..B
 abbrev pub seeds_in : Text → Option (Text × Text)

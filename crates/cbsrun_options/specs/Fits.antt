@@ -2,8 +2,8 @@
 use Rattle.std.specs.Prelude.{ℕ, ◌≤◌}
 use Rattle.cbsrun_window.specs.Windows.{ticks_of}
 use Rattle.cbsrun_window.specs.declared.window.Window.{Window}
-use Rattle.cbsrun_command_line.specs.declared.actions.Drawing.{Drawing}
-use Rattle.cbsrun_command_line.specs.declared.actions.Drawing.TheVariants.{Svg, Text, Trace}
+use Rattle.cbsrun_options.specs.declared.actions.Drawing.{Drawing}
+use Rattle.cbsrun_options.specs.declared.actions.Drawing.TheVariants.{Svg, Text, Trace}
 
 -- how many ticks a drawing can show at a time: a trace all that a window can have, and the other drawings those of a short one
 abbrev pub most_ticks : Drawing → ℕ
