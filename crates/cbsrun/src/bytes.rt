@@ -4,7 +4,7 @@ ghost use Rattle.std.specs.Prelude.{◌-◌, ◌<◌, ◌^◌};
 ghost use Rattle.cbsrun_io.specs.Writers.{MayWrite};
 
 use cbsrun_commands::{ByteOutput, FromRead, ReadError, read_all, write_pieces};
-use cbsrun_fault_texts::printable;
+use cbsrun_refusal_texts::printable;
 use std::alloc::{AllocError, Global};
 use std::fs::File;
 use std::{fs, io};

@@ -21,7 +21,7 @@ use cbsrun_commands::{
     simulate_jobs_within, simulate_lines_within, size_bytes_within, sweep_bytes_within,
     write_pieces, write_read_fault, write_run_fault,
 };
-use cbsrun_fault_texts::printable;
+use cbsrun_refusal_texts::printable;
 use cbsrun_tasks::MEMORY;
 use cbsrun_text_colours::Painted;
 use std::alloc::{AllocError, Global};

@@ -8,8 +8,8 @@ use Rattle.cbsrun_lines.specs.Writers.{run_error_number, run_error_name, Writer,
 use Rattle.cbsrun_toml_tables.specs.declared.fault.FileFault.{FileFault}
 use Rattle.cbsrun_io.specs.declared.input.ReadError.{ReadError}
 use Rattle.cbsrun_lines.specs.declared.run_error.RunError.{RunError}
-use Rattle.cbsrun_fault_texts.specs.Others.{TellsOthersOf}
-use Rattle.cbsrun_fault_texts.specs.Refusals.{ExplainsRefusal}
+use Rattle.cbsrun_other_faults.specs.Others.{TellsOthersOf}
+use Rattle.cbsrun_fault_texts.specs.Explanations.{ExplainsRefusal}
 use Rattle.cbsrun_lines.specs.declared.run_error.RunError.TheVariants.{OutOfMemory, WriteFault, ClockEnd, Stalled}
 
 -- the line of a read fault: its number and its name

@@ -9,9 +9,10 @@ ghost use Rattle.cbsrun_lines.specs.Writers.{MayWrite, TriesToWrite};
 ghost use Rattle.cbsrun_lines.specs.declared.run_error.RunError.TheVariants.{OutOfMemory};
 
 use crate::fault_lines::{write_file_fault, write_nothing_shown, write_run_fault};
-use cbsrun_fault_texts::{explain, explain_others};
+use cbsrun_fault_texts::explain;
 use cbsrun_io::{ByteOutput, write_pieces, write_text};
 use cbsrun_lines::RunError;
+use cbsrun_other_faults::explain_others;
 use cbsrun_records::{is_record, text_of};
 use cbsrun_runs::NothingShown;
 use cbsrun_tasks::{FileFault, FileKind, wants_within};

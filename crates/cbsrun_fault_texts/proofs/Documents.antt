@@ -1,21 +1,19 @@
 -- The spot of a server, and what was appended about it, by the file in which it stands.
 use Rattle.std.proofs.Common.{◌≡◌, ℕ, List, map, None}
 use Rattle.std.specs.Prelude.{slice_get}
-use Rattle.toml.specs.Data.{Data, Members}
+use Rattle.toml.specs.Data.{Members}
 use Rattle.toml.specs.View.{view, table_view}
-use Rattle.cbs_rate.specs.declared.error.AdmitError.{AdmitError}
 use Rattle.cbsrun_faults.specs.Documents.{IsDocument, servers_of}
 use Rattle.cbsrun_faults.specs.Spots.{IsServerSpot}
 use Rattle.cbsrun_faults.specs.declared.document.Document.{Document}
-use Rattle.cbsrun_faults.specs.declared.refused.Refused.{Refused}
 use Rattle.cbsrun_faults.specs.declared.spot.Spot.{Spot}
-use Rattle.cbsrun_fault_texts.specs.Refusals.{AppendsRefusal, IsNotRefusedAt, IsRefusalText, IsServerLine, IsSpotLine}
-use Rattle.cbsrun_fault_texts.specs.Pages.{AppendsA}
-use Rattle.cbsrun_fault_texts.specs.declared.page.Page.{Page}
+use Rattle.cbsrun_refusal_texts.specs.Pages.{PageText}
+use Rattle.cbsrun_refusal_texts.specs.Refusals.{AppendsRefusal, IsNotRefusedAt, IsSpotLine}
+use Rattle.cbsrun_fault_texts.specs.Explanations.{IsServerLine}
 
 module _ (document : Document) (number : ℕ) (file : List ℕ) (top : Members) (is : IsDocument file top document) where
   -- what was appended by the spot was appended by the file
-  pub refusal_of : (spot : Spot) (old new : Page) → IsServerSpot document number spot
+  pub refusal_of : (spot : Spot) (old new : PageText) → IsServerSpot document number spot
       → AppendsRefusal (IsSpotLine spot) (table_view spot.document.top.now) (map view spot.document.servers.now) number old new
       → AppendsRefusal (IsServerLine file top number) top (servers_of top) number old new
   refusal_of spot old new at appended =
@@ -28,8 +26,3 @@ module _ (document : Document) (number : ℕ) (file : List ℕ) (top : Members) 
       let there = rw is.top at none in
       let entry = rw there at h.entry in
       cc
-
--- what is told for a reason
-pub told_as : (why reason : AdmitError) (IsPlace : List ℕ → Type 0) (entries : List Data) (refused : Refused) (old new : Page) → why ≡ reason
-    → AppendsA (IsRefusalText reason IsPlace entries refused) old new → AppendsA (IsRefusalText why IsPlace entries refused) old new
-told_as why reason IsPlace entries refused old new is told = rw is told

@@ -1,9 +1,2 @@
 mod Documents
 mod Explained
-mod Helps
-mod Laid
-mod Listed
-mod Pages
-mod Shares
-mod Told
-mod Words

@@ -1,4 +1,1 @@
-pub mod Others
-pub mod Over
-pub mod Pages
-pub mod Refusals
+pub mod Explanations

@@ -4,19 +4,19 @@ ghost use Rattle.std.specs.Prelude.{◌≡◌, ℕ, List, IfOk, Some, IsUtf8, st
 ghost use Rattle.toml.specs.Data.{Members};
 ghost use Rattle.toml.specs.Parse.{parse_document};
 ghost use Rattle.cbsrun_faults.specs.Documents.{IsDocument};
-ghost use Rattle.cbsrun_fault_texts.specs.Refusals.{AppendsWhy, ExplainsRefusal};
+ghost use Rattle.cbsrun_fault_texts.specs.Explanations.{AppendsWhy, TellsWhy, ExplainsRefusal};
 
 use crate::key_line::{KeyLine, Marked};
-use crate::limits::append_not_admitted;
 use crate::not_toml::append_not_toml;
 use crate::notes::{append_keys_note, append_servers_note};
-use crate::page::Page;
+use crate::pieces::append_spot_at;
 use crate::remarks::{append_outside_line, append_type_lines};
 use crate::shown::{append_shown, type_phrase};
 use crate::values::{append_outside, append_wrong_type};
 use cbsrun_faults::{
     Document, Finding, Key, Kind, Meant, Spot, Subject, Want, find, header_line, meant_by, spot_at,
 };
+use cbsrun_refusal_texts::{Page, append_not_admitted};
 use cbsrun_toml_tables::{FileFault, FileKind, Place};
 use std::alloc::{AllocError, Global};
 use toml::Value;
@@ -26,12 +26,12 @@ fn append_unknown(page: &mut Page, spot: &Spot<'_>, key: &str, value: &Value) {
     page.push_all(&["error: no key of ", spot.subject.phrase(), ": `"]);
     page.push_printable(key);
     page.push("`");
-    let line = KeyLine::new(page.alloc, spot, key, value);
+    let line = KeyLine::new(page.alloc(), spot, key, value);
     let Some(line) = page.accept(line) else {
         return;
     };
     line.append(page, spot, Marked::Key);
-    let meant = meant_by(page.alloc, spot, key);
+    let meant = meant_by(page.alloc(), spot, key);
     match page.accept(meant).flatten() {
         Some(Meant::Key(name)) => page.push_all(&[" did you mean `", name, "`?"]),
         Some(Meant::Elsewhere(phrase)) => page.push_all(&[" this key belongs to ", phrase]),
@@ -67,7 +67,7 @@ fn append_size_help(page: &mut Page, spot: &Spot<'_>, key: Key) {
         && matches!(key.name, "budget" | "period")
     {
         let words = "`cbsrun size LOAD` proposes budget and period, if both are left out";
-        page.push_note(2, "help", String::from_str(page.alloc, words));
+        page.push_note(2, "help", String::from_str(page.alloc(), words));
     }
 }
 
@@ -77,11 +77,11 @@ fn append_missing(page: &mut Page, spot: &Spot<'_>, key: Key) {
         return append_other_kind(page, spot);
     }
     page.push_all(&["error: `", key.name, "` is missing"]);
-    let number = header_line(page.alloc, spot);
+    let number = header_line(page.alloc(), spot);
     let Some(number) = page.accept(number) else {
         return;
     };
-    page.push_spot_at(spot, number);
+    append_spot_at(page, spot, number);
     append_keys_note(page, 2, spot.subject, true);
     append_size_help(page, spot, key);
 }
@@ -90,7 +90,7 @@ fn append_missing(page: &mut Page, spot: &Spot<'_>, key: Key) {
 fn append_type_fault(page: &mut Page, spot: &Spot<'_>, key: Key, value: &Value) {
     page.push("error: ");
     append_wrong_type(page, key, value, spot);
-    let line = KeyLine::new(page.alloc, spot, key.name, value);
+    let line = KeyLine::new(page.alloc(), spot, key.name, value);
     if let Some(line) = page.accept(line) {
         append_type_lines(page, &line, key, value, spot);
     }
@@ -100,7 +100,7 @@ fn append_type_fault(page: &mut Page, spot: &Spot<'_>, key: Key, value: &Value) 
 fn append_range_fault(page: &mut Page, spot: &Spot<'_>, key: Key, value: &Value) {
     page.push("error: ");
     append_outside(page, key, value, spot);
-    let line = KeyLine::new(page.alloc, spot, key.name, value);
+    let line = KeyLine::new(page.alloc(), spot, key.name, value);
     let Some(line) = page.accept(line) else {
         return;
     };
@@ -116,7 +116,7 @@ fn append_taken(page: &mut Page, spot: &Spot<'_>, value: &Value, other: usize) {
     append_shown(page, value);
     page.push_number(", which server ", other as u64);
     page.push(" has already");
-    let line = KeyLine::new(page.alloc, spot, "name", value);
+    let line = KeyLine::new(page.alloc(), spot, "name", value);
     if let Some(line) = page.accept(line) {
         line.append(page, spot, Marked::Inside);
         page.push(" a name that no other server has\n");
@@ -164,7 +164,7 @@ fn append_elsewhere(page: &mut Page, name: &str, fault: FileFault) {
 }
 
 /// Appends the explanation of a fault in a document.
-pub(crate) fn append_fault(page: &mut Page, document: Document<'_>, fault: FileFault)
+fn append_fault(page: &mut Page, document: Document<'_>, fault: FileFault)
     ensures { (file : List ℕ) (top : Members) → IsDocument file top document.entry
         → AppendsWhy file top fault page.old page.new }
 {
@@ -179,8 +179,22 @@ pub(crate) fn append_fault(page: &mut Page, document: Document<'_>, fault: FileF
     }
 }
 
+/// Returns the explanation of a fault in a document. The only error is out of memory.
+pub fn explain_in(
+    alloc: Global,
+    document: Document<'_>,
+    fault: FileFault,
+) -> Result<String, AllocError>
+    ensures refusal { IfOk result (λ text. (file : List ℕ) (top : Members)
+        → IsDocument file top document.entry → TellsWhy file top fault (string_bytes text)) }
+{
+    let mut page = Page::new(alloc);
+    append_fault(&mut page, document, fault);
+    page.finish()
+}
+
 /// Returns bytes as a text, or an empty one if they are none.
-pub(crate) fn text_of(bytes: &[u8]) -> &str {
+fn text_of(bytes: &[u8]) -> &str {
     std::str::from_utf8(bytes).unwrap_or("")
 }
 
@@ -192,7 +206,7 @@ fn append_explanation(page: &mut Page, name: &str, bytes: &[u8], fault: FileFaul
     if fault.kind == FileKind::OutOfMemory {
         return page.push_kind(fault.kind);
     }
-    match toml::table_from_slice(page.alloc, bytes) {
+    match toml::table_from_slice(page.alloc(), bytes) {
         Ok(top) => append_fault(page, Document::new(name, text_of(bytes), &top), fault),
         Err(error) if error.is_memory() => page.fail(),
         Err(error) => append_not_toml(page, name, bytes, &error),

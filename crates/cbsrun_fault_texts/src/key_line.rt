@@ -2,9 +2,10 @@
 
 ghost use Rattle.std.specs.Prelude.{◌≤◌};
 
-use crate::page::{COLUMNS, Page};
+use crate::pieces::{append_part, append_spot_at};
 use crate::shown::append_shown;
 use cbsrun_faults::{Line, Spot, line_of};
+use cbsrun_refusal_texts::{COLUMNS, Page};
 use std::alloc::{AllocError, Global};
 use toml::Value;
 
@@ -49,7 +50,7 @@ fn shown_key(alloc: Global, key: &str) -> Result<String, AllocError> {
 fn shown_value(alloc: Global, line: Option<Line<'_>>, value: &Value) -> Result<String, AllocError> {
     let mut shown = Page::new(alloc);
     match line {
-        Some(line) if is_plain(line.value) => shown.push_part(line.value),
+        Some(line) if is_plain(line.value) => append_part(&mut shown, line.value),
         _ => append_shown(&mut shown, value),
     }
     shown.finish()
@@ -98,7 +99,7 @@ impl KeyLine {
             Marked::Value => (start, count),
             Marked::Inside => (start.saturating_add(1), count.saturating_sub(2)),
         };
-        page.push_spot_at(spot, self.number);
+        append_spot_at(page, spot, self.number);
         page.push_line(&self.gutter, &[&self.key, " = ", &self.value], from, count);
     }
 }

@@ -3,8 +3,9 @@
 ghost use Rattle.std.specs.Prelude.{◌≤◌};
 
 use crate::notes::{append_brackets_help, append_help};
-use crate::page::{COLUMNS, Page};
+use crate::pieces::append_part;
 use cbsrun_faults::{BadByte, Broken, Position, Quote, Wrong, bad_byte, broken_at};
+use cbsrun_refusal_texts::{COLUMNS, Page};
 use std::alloc::{AllocError, Global};
 use toml::de::Error;
 
@@ -58,7 +59,7 @@ fn append_place(page: &mut Page, name: &str, line: usize, column: usize) {
 /// Returns a part of a line as it is shown. The only error is out of memory.
 fn shown_part(alloc: Global, part: &str) -> Result<String, AllocError> {
     let mut shown = Page::new(alloc);
-    shown.push_part(part);
+    append_part(&mut shown, part);
     shown.finish()
 }
 
@@ -73,7 +74,7 @@ fn shown_line(alloc: Global, broken: Broken<'_>) -> Result<Shown, AllocError> {
 
 /// Appends the line of an error, with carets below what the error is about, and what should be there.
 fn append_line(page: &mut Page, gutter: &str, broken: Broken<'_>) {
-    let line = shown_line(page.alloc, broken);
+    let line = shown_line(page.alloc(), broken);
     let Some(line) = page.accept(line) else {
         return;
     };
@@ -111,7 +112,7 @@ fn append_broken(page: &mut Page, name: &str, broken: Broken<'_>) {
     let Position { number, before, .. } = broken.position;
     append_sentence(page, broken.wrong);
     append_place(page, name, number, before.chars().count().saturating_add(1));
-    let gutter = format!(in page.alloc; "{number} ");
+    let gutter = format!(in page.alloc(); "{number} ");
     if let Some(gutter) = page.accept(gutter) {
         append_line(page, &gutter, broken);
         append_remedy(page, gutter.len().min(COLUMNS), broken.wrong);

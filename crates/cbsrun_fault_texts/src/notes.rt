@@ -2,8 +2,9 @@
 
 ghost use Rattle.std.specs.Prelude.{◌≤◌};
 
-use crate::page::Page;
+use crate::pieces::append_list;
 use cbsrun_faults::{Key, Subject, server_names};
+use cbsrun_refusal_texts::Page;
 use std::alloc::{AllocError, Global};
 use toml::Value;
 
@@ -36,7 +37,7 @@ fn optional_names(alloc: Global, keys: &[Key]) -> Result<Vec<&'static str>, Allo
 
 /// Appends which keys may be left out.
 fn append_optional(page: &mut Page, keys: &[Key]) {
-    let optional = optional_names(page.alloc, keys);
+    let optional = optional_names(page.alloc(), keys);
     let Some(optional) = page.accept(optional) else {
         return;
     };
@@ -44,7 +45,7 @@ fn append_optional(page: &mut Page, keys: &[Key]) {
         return page.push("; all of them have to be there");
     }
     page.push("; ");
-    page.push_list(&optional, "`", " and ");
+    append_list(page, &optional, "`", " and ");
     page.push(" may be left out");
 }
 
@@ -52,7 +53,7 @@ fn append_optional(page: &mut Page, keys: &[Key]) {
 pub(crate) fn append_keys_note(page: &mut Page, margin: usize, subject: Subject, missing: bool)
     requires { margin ≤ 80 }
 {
-    let mut words = Page::new(page.alloc);
+    let mut words = Page::new(page.alloc());
     append_keys(&mut words, subject);
     if missing && subject.keys().len() > 1 {
         append_optional(&mut words, subject.keys());
@@ -66,7 +67,7 @@ pub(crate) fn append_help(page: &mut Page, margin: usize, words: &str)
     requires { margin ≤ 80 }
 {
     page.push_bar(margin);
-    page.push_note(margin, "help", String::from_str(page.alloc, words));
+    page.push_note(margin, "help", String::from_str(page.alloc(), words));
 }
 
 /// Appends how the tables of this array are written, if it is one of a file.
@@ -85,14 +86,14 @@ pub(crate) fn append_brackets_help(page: &mut Page, margin: usize, name: &str)
 pub(crate) fn append_servers_note(page: &mut Page, margin: usize, servers: &[Value])
     requires { margin ≤ 80 }
 {
-    let mut words = Page::new(page.alloc);
-    if let Some(names) = words.accept(server_names(page.alloc, servers)) {
+    let mut words = Page::new(page.alloc());
+    if let Some(names) = words.accept(server_names(page.alloc(), servers)) {
         words.push(match names.len() {
             0 => "there are no servers",
             1 => "the server is ",
             _ => "the servers are ",
         });
-        words.push_list(&names, "\"", ", ");
+        append_list(&mut words, &names, "\"", ", ");
     }
     page.push_bar(margin);
     page.push_note(margin, "note", words.finish());

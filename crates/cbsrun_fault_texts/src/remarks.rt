@@ -4,9 +4,9 @@ ghost use Rattle.std.specs.Prelude.{◌≤◌};
 
 use crate::key_line::{KeyLine, Marked};
 use crate::notes::{append_brackets_help, append_help, append_servers_note};
-use crate::page::Page;
 use crate::values::{BadTime, append_allowed, append_from, append_type, bad_time, may_be_time};
 use cbsrun_faults::{Key, Kind, Spot, Want, nearest_word, server_names, two_numbers};
+use cbsrun_refusal_texts::Page;
 use cbsrun_times::{Rounding, ticks_of};
 use std::alloc::{AllocError, Global};
 use toml::Value;
@@ -105,7 +105,7 @@ pub(crate) fn append_outside_line(
     };
     line.append(page, spot, marked);
     page.push(" ");
-    let meant = meant(page.alloc, key.want, value, spot);
+    let meant = meant(page.alloc(), key.want, value, spot);
     match page.accept(meant) {
         Some(Some(word)) => write!(page, "did you mean {word:?}?"),
         _ => append_short(page, key, value, spot),
@@ -133,6 +133,11 @@ fn whole_number(alloc: Global, want: Want, value: &Value) -> Result<Option<i64>,
     }
 }
 
+/// Appends words, a number, and what stands after it.
+fn append_integer(page: &mut Page, words: &str, number: i64, end: &str) {
+    write!(page, "{words}{number}{end}");
+}
+
 /// Appends what to do about a value of a wrong type.
 fn append_type_remark(
     page: &mut Page,
@@ -142,15 +147,15 @@ fn append_type_remark(
     spot: &Spot<'_>,
 ) {
     if let Some(number) = whole {
-        return write!(page, "as a whole number it is {number}");
+        return append_integer(page, "as a whole number it is ", number, "");
     }
     match value {
         Value::String(word) if wants_number(key.want) => match word.parse::<i64>() {
-            Ok(number) => write!(page, "without the quotes it is the number {number}"),
+            Ok(number) => append_integer(page, "without the quotes it is the number ", number, ""),
             Err(_) => append_type(page, key, spot),
         },
         Value::Integer(number) if matches!(key.want, Want::Name) => {
-            write!(page, "in quotes it is the text \"{number}\"")
+            append_integer(page, "in quotes it is the text \"", *number, "\"")
         }
         _ => append_type(page, key, spot),
     }
@@ -159,7 +164,14 @@ fn append_type_remark(
 /// Returns whether a value is a number with a point or an exponent, or an array with such a number.
 fn has_fraction(value: &Value) -> bool {
     match value {
-        Value::Array(entries) => entries.iter().any(|entry| entry.is_float()),
+        Value::Array(entries) => {
+            for entry in entries {
+                if entry.is_float() {
+                    return true;
+                }
+            }
+            false
+        }
         _ => value.is_float(),
     }
 }
@@ -209,7 +221,7 @@ pub(crate) fn append_type_lines(
     value: &Value,
     spot: &Spot<'_>,
 ) {
-    let whole = whole_number(page.alloc, key.want, value);
+    let whole = whole_number(page.alloc(), key.want, value);
     let whole = page.accept(whole).flatten();
     line.append(page, spot, Marked::Value);
     page.push(" ");

@@ -1,6 +1,6 @@
 //! Values of a document, as an explanation shows them.
 
-use crate::page::Page;
+use cbsrun_refusal_texts::Page;
 use toml::Value;
 
 /// The most entries of an array that are shown.

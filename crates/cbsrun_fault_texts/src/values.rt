@@ -1,8 +1,9 @@
 //! The explanations of a value that is not what its key needs.
 
-use crate::page::Page;
+use crate::pieces::append_list;
 use crate::shown::{append_shown, type_phrase};
 use cbsrun_faults::{Key, MAX_NUMBER, Spot, Want, first_bad_tick, first_bad_unit, two_numbers};
+use cbsrun_refusal_texts::Page;
 use cbsrun_times::{LONGEST_TICK, Rounding, ticks_of};
 use toml::Value;
 
@@ -11,30 +12,31 @@ pub(crate) fn may_be_time(key: Key, spot: &Spot<'_>) -> bool {
     spot.document.tick.is_some() && key.rounding().is_some()
 }
 
-/// Appends which type a value must have.
+/// Returns which type a value must have, in words. It may be a time if `time` says so. A word of a set is a text here.
+fn type_words(want: Want, time: bool) -> &'static str {
+    match want {
+        Want::Number(_, _) | Want::Budget | Want::Jitter if time => {
+            "a time or a whole number of ticks"
+        }
+        Want::Range(_, _) if time => "a time, a whole number of ticks, or [least, greatest]",
+        Want::Listed if time => "an array of times or whole numbers of ticks",
+        Want::Number(_, _) | Want::Budget | Want::Jitter | Want::Server => "a whole number",
+        Want::Range(_, _) => "a whole number or [least, greatest]",
+        Want::Word(_) | Want::Name => "a text",
+        Want::ServerName => "the name of a server",
+        Want::Bound => "two whole numbers, [N, D]",
+        Want::Tables(_) => "an array of tables",
+        Want::Units => "an array of whole numbers",
+        Want::Listed => "an array of whole numbers of ticks",
+        Want::Tick => "a text, as \"0.1 ms\"",
+    }
+}
+
+/// Appends which type a value must have, or the words that it may be.
 pub(crate) fn append_type(page: &mut Page, key: Key, spot: &Spot<'_>) {
     match key.want {
-        Want::Number(_, _) | Want::Budget | Want::Jitter if may_be_time(key, spot) => {
-            page.push("a time or a whole number of ticks")
-        }
-        Want::Range(_, _) if may_be_time(key, spot) => {
-            page.push("a time, a whole number of ticks, or [least, greatest]")
-        }
-        Want::Number(_, _) | Want::Budget | Want::Jitter | Want::Server => {
-            page.push("a whole number")
-        }
-        Want::Range(_, _) => page.push("a whole number or [least, greatest]"),
-        Want::Word(words) => page.push_list(words.list(), "\"", " or "),
-        Want::Name => page.push("a text"),
-        Want::ServerName => page.push("the name of a server"),
-        Want::Bound => page.push("two whole numbers, [N, D]"),
-        Want::Tables(_) => page.push("an array of tables"),
-        Want::Units => page.push("an array of whole numbers"),
-        Want::Listed if may_be_time(key, spot) => {
-            page.push("an array of times or whole numbers of ticks")
-        }
-        Want::Listed => page.push("an array of whole numbers of ticks"),
-        Want::Tick => page.push("a text, as \"0.1 ms\""),
+        Want::Word(words) => append_list(page, words.list(), "\"", " or "),
+        want => page.push(type_words(want, may_be_time(key, spot))),
     }
 }
 
@@ -82,7 +84,7 @@ pub(crate) fn append_allowed(page: &mut Page, want: Want, spot: &Spot<'_>) {
             least,
             greatest,
         ),
-        Want::Word(words) => page.push_list(words.list(), "\"", " or "),
+        Want::Word(words) => append_list(page, words.list(), "\"", " or "),
         Want::Name => page.push("1 to 32 letters, digits, `-` and `_`"),
         Want::Bound => page.push("[N, D] with 1 <= N <= D <= 1000000"),
         Want::Tables(most) => {
@@ -317,8 +319,12 @@ fn odd_entry(want: Want, value: &Value, may_be_time: bool) -> Option<&Value> {
     if !wants_numbers(want) {
         return None;
     }
-    let mut entries = value.as_array()?.iter();
-    entries.find(|entry| !is_number_or_time(entry, may_be_time))
+    for entry in value.as_array()? {
+        if !is_number_or_time(entry, may_be_time) {
+            return Some(entry);
+        }
+    }
+    None
 }
 
 /// Appends what is wrong with a value of a wrong type.

@@ -2,8 +2,9 @@
 //! repository.
 
 use super::same;
-use cbsrun_fault_texts::{explain, explain_others};
+use cbsrun_fault_texts::explain;
 use cbsrun_loads::read_load;
+use cbsrun_other_faults::explain_others;
 
 const COMMA_LEFT_OUT: &str = "load = 1\n\nbound = [1 1]\n";
 

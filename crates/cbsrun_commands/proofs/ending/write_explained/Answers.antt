@@ -1,5 +1,5 @@
 use Rattle.std.proofs.Common.{◌∙◌, ℕ, List, [], append-nil, refl, string_bytes, subst, sym}
-use Rattle.cbsrun_fault_texts.specs.Refusals.{ExplainsRefusal}
+use Rattle.cbsrun_fault_texts.specs.Explanations.{ExplainsRefusal}
 use Rattle.cbsrun_lines.proofs.Writers.{tries, tries_below, tries_alone}
 use Rattle.cbsrun_commands.specs.FaultLines.{document_of}
 use Rattle.cbsrun_commands.proofs.Others.{done_with, was_done, was_made, writes_below}

@@ -1,6 +1,0 @@
-use Rattle.cbsrun_fault_texts.specs.Others.{TellsEach}
-use Rattle.cbsrun_fault_texts.specs.Pages.{AppendsA}
-use Rattle.cbsrun_fault_texts.proofs.others.append_each.Given as goal
-
-abbrev pub invariant-loop-fault : goal.invariant-loop-fault
-invariant-loop-fault l = AppendsA (TellsEach l.fault-index) l.initial.page l.page

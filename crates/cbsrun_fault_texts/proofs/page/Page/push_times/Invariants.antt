@@ -1,5 +1,0 @@
-use Rattle.cbsrun_fault_texts.specs.Pages.{Appends, times}
-use Rattle.cbsrun_fault_texts.proofs.page.Page.push_times.Given as goal
-
-abbrev pub invariant-loop-time : goal.invariant-loop-time
-invariant-loop-time l = Appends l.initial.self l.self (times l._time l.part)

@@ -1,6 +1,0 @@
-use Rattle.std.proofs.Common.{map}
-use Rattle.cbsrun_fault_texts.proofs.Laid.{AppendsLaid}
-use Rattle.cbsrun_fault_texts.proofs.page.Page.push_words.Given as goal
-
-abbrev pub invariant-loop-word : goal.invariant-loop-word
-invariant-loop-word l = AppendsLaid l.indent l.column l.initial.self l.self (map (λ word. word.now) l.yielded)

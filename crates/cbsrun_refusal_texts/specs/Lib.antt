@@ -1,0 +1,3 @@
+pub mod Over
+pub mod Pages
+pub mod Refusals
