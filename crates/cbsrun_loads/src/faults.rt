@@ -1,9 +1,8 @@
 //! The faults of a load file: the first ones, and how many there are.
 
-ghost use Rattle.std.specs.Prelude.{◌≡◌, ◌≢◌, ◌⊎◌, ◌+◌, ◌^◌, ◌++◌, ◌<◌, ◌≤◌, ℕ, List, [], length, map, string_bytes, Some, IfOk, IfErr, OnOk};
+ghost use Rattle.std.specs.Prelude.{◌≡◌, ◌⊎◌, ◌≤◌, length, map, string_bytes, IfOk, IfErr};
 ghost use Rattle.toml.specs.View.{view, table_view};
 ghost use Rattle.cbs_rate.specs.Limits.{most_servers};
-ghost use Rattle.cbsrun_toml_tables.specs.declared.fault.FileFault.{FileFault};
 ghost use Rattle.cbsrun_toml_tables.specs.declared.fault.FileKind.TheVariants.{OutOfMemory};
 ghost use Rattle.cbsrun_toml_tables.specs.Fields.{Gives};
 ghost use Rattle.cbsrun_loads.specs.Faults.{named_entry, server_faults, source_faults, load_faults, none_named, BeginWith};
