@@ -7,7 +7,8 @@ use Rattle.cbsrun_toml_tables.specs.declared.fault.Place.TheVariants.{Server, So
 use Rattle.cbsrun_toml_tables.specs.Documents.{at, faulty, taken_in}
 use Rattle.cbsrun_toml_tables.specs.Fields.{◌>>=◌, each_from, seen}
 use Rattle.cbsrun_loads.specs.Faults.{entry_faults, faults_from, later_faults, load_faults, none_named, server_faults, BeginWith}
-use Rattle.cbsrun_loads.specs.Sources.{SourceData, due_in_plan, source_entry}
+use Rattle.cbsrun_entries.specs.Sources.{SourceData}
+use Rattle.cbsrun_loads.specs.Due.{due_in_plan, source_entry}
 use Rattle.cbsrun_loads.specs.Spelling.{Named, admitted_entry, load_in}
 use Rattle.cbsrun_loads.specs.TopTables.{TopData, top_table}
 

@@ -12,7 +12,8 @@ use Rattle.cbsrun_toml_tables.specs.declared.fault.Place.{Place}
 use Rattle.cbsrun_toml_tables.specs.declared.fault.Place.TheVariants.{Server}
 use Rattle.cbsrun_toml_tables.specs.Documents.{faulty}
 use Rattle.cbsrun_toml_tables.specs.Fields.{Gives, seen}
-use Rattle.cbsrun_loads.specs.Faults.{faults_from, later_faults, named_entry, server_faults, told_at}
+use Rattle.cbsrun_loads.specs.Faults.{faults_from, later_faults, named_entry, server_faults}
+use Rattle.cbsrun_entries.specs.Noted.{told_at}
 use Rattle.cbsrun_loads.specs.Spelling.{Named, admitted_entry}
 
 -- a fault that is not out of memory is what is read

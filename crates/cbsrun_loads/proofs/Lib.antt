@@ -1,5 +1,3 @@
-pub mod Gaps
 pub mod Pairs
-pub mod Names
 mod Begins
 mod Judged

@@ -2,7 +2,7 @@
 use Rattle.std.proofs.Common.{◌≡◌, ℕ, zero, suc, List, [], ◌∷◌, ◌++◌, length, map, refl, ap, subst, arith}
 use Rattle.cbsrun_simulate.specs.Drawing.{AreListed, IsListed}
 use Rattle.cbsrun_simulate.specs.declared.terms.SourceTerms.{SourceTerms}
-use Rattle.cbsrun_loads.specs.Sources.{SourceData, paired}
+use Rattle.cbsrun_entries.specs.Sources.{SourceData, paired}
 
 -- one source more
 pub paired_push : (ts : List SourceTerms) (ls : List (List ℕ)) (t : SourceTerms) (n : List ℕ) → length ls ≡ length ts

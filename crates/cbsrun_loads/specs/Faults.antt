@@ -1,6 +1,6 @@
 -- The faults of a load file, of which `load_in` tells the first. A table with a fault is left out, and the next table of
 -- the same array is read.
-use Rattle.std.specs.Prelude.{◌≡◌, ℕ, ◌+◌, List, [], ◌∷◌, ◌++◌, length, take, Option, Some, None, Result, Ok, Err}
+use Rattle.std.specs.Prelude.{◌≡◌, ℕ, ◌+◌, List, [], ◌∷◌, ◌++◌, Option, Result, Ok, Err}
 use Rattle.toml.specs.Data.{Data, Members}
 use Rattle.cbs_rate.specs.Bound.{Fraction}
 use Rattle.cbs_rules.specs.Setups.{no_servers}
@@ -12,11 +12,11 @@ use Rattle.cbsrun_toml_tables.specs.declared.fault.Place.TheVariants.{Top, Serve
 use Rattle.cbsrun_toml_tables.specs.Documents.{faulty, taken_in}
 use Rattle.cbsrun_toml_tables.specs.Fields.{◌>>=◌, seen}
 use Rattle.cbsrun_loads.specs.Loads.{LoadFile}
-use Rattle.cbsrun_loads.specs.Servers.{server_entry}
-use Rattle.cbsrun_loads.specs.Sources.{due_in_plan, source_entry}
+use Rattle.cbsrun_entries.specs.Servers.{server_entry}
+use Rattle.cbsrun_loads.specs.Due.{due_in_plan, source_entry}
 use Rattle.cbsrun_loads.specs.Spelling.{Named, admitted_entry, unless_taken}
 use Rattle.cbsrun_loads.specs.TopTables.{TopData, top_table}
-use Rattle.cbsrun_loads.specs.declared.faults.Faults.{Faults}
+pub use Rattle.cbsrun_entries.specs.Noted.{AreFaults}
 
 -- what is made of a value, or of a fault
 abbrev pub either : {A E B : Type 0} → Result A E → (A → B) → (E → B) → B
@@ -76,13 +76,3 @@ load_faults table = either (top_table table) entry_faults (λ kind. faulty Top k
 abbrev pub BeginWith : Result LoadFile FileFault → List FileFault → Type 0
 BeginWith (Ok load) faults = faults ≡ []
 BeginWith (Err fault) faults = (rest : List FileFault) × (faults ≡ fault ∷ rest)
-
--- the fault of this kind at this place, if there is one
-abbrev pub told_at : Place → Option FileKind → List FileFault
-told_at place None = []
-told_at place (Some kind) = faulty place kind ∷ []
-
--- at most so many first ones of all faults are kept, and all are counted
-pub record AreFaults (most : ℕ) (all : List FileFault) (faults : Faults) : Type 0 where
-  pub first : faults.first.items ≡ take most all
-  pub count : faults.count ≡ length all

@@ -1,14 +1,14 @@
 -- What a load file holds.
-use Rattle.std.specs.Prelude.{◌≡◌, ℕ, ◌≤◌, ◌<◌, List, length, All, IsSome, Option}
-use Rattle.cbs_rate.specs.Limits.{most_backlog, longest_period}
+use Rattle.std.specs.Prelude.{◌≡◌, ℕ, ◌≤◌, List, length, All, Option}
+use Rattle.cbs_rate.specs.Limits.{most_backlog}
 use Rattle.cbs_rate.specs.Plan.{Planned}
 use Rattle.cbs_rules.specs.Rules.{clock_end}
 use Rattle.cbs_rules.specs.declared.mode.Mode.{Mode}
-use Rattle.cbsrun_simulate.specs.Drawing.{AreListed, IsLawful, released_by_all}
+use Rattle.cbsrun_simulate.specs.Drawing.{AreListed, released_by_all}
 use Rattle.cbsrun_simulate.specs.Merging.{merged}
-use Rattle.cbsrun_simulate.specs.Released.{HasRanges}
 use Rattle.cbsrun_simulate.specs.declared.release.Release.{Release}
 use Rattle.cbsrun_simulate.specs.declared.terms.SourceTerms.{SourceTerms}
+pub use Rattle.cbsrun_entries.specs.Sources.{IsSource}
 
 -- the names, modes and plan of the servers, the greatest backlog of each, the sources, the nominal ticks that are listed
 -- of each, none if they are drawn, the tick at which a simulation ends, the seed, and the nanoseconds of a tick, if they
@@ -39,15 +39,6 @@ with_until until f = record f { until = until }
 -- the greatest number of sources of a load
 abbrev pub most_sources : ℕ
 most_sources = 65536
-
--- the source is within its limits, none of its ranges is empty, and it gives jobs to one of this many servers. No unit of
--- it overruns by more than the longest period
-pub record IsSource (servers : ℕ) (t : SourceTerms) : Type 0 where
-  pub named : t.server < servers
-  pub lawful : IsLawful t
-  pub ranges : HasRanges t
-  pub short : t.overrun.greatest ≤ longest_period
-  pub within : IsSome t.within
 
 -- what holds of every load file
 pub record IsLoad (f : LoadFile) : Type 0 where

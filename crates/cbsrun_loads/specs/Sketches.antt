@@ -19,11 +19,13 @@ use Rattle.cbsrun_toml_tables.specs.declared.fault.Place.TheVariants.{Top, Sourc
 use Rattle.cbsrun_toml_tables.specs.Documents.{at, document, taken_in}
 use Rattle.cbsrun_toml_tables.specs.Fields.{◌>>=◌, table_with, text_at, each_from}
 use Rattle.cbsrun_toml_tables.specs.Plans.{reservation, mode_of}
-use Rattle.cbsrun_loads.specs.Loads.{most_sources, IsSource}
-use Rattle.cbsrun_loads.specs.Servers.{name_of}
-use Rattle.cbsrun_loads.specs.Sources.{SourceData, source_entry}
+use Rattle.cbsrun_entries.specs.Sources.{IsSource}
+use Rattle.cbsrun_loads.specs.Loads.{most_sources}
+use Rattle.cbsrun_entries.specs.Servers.{name_of}
+use Rattle.cbsrun_entries.specs.Sources.{SourceData}
+use Rattle.cbsrun_loads.specs.Due.{source_entry}
 use Rattle.cbsrun_loads.specs.Spelling.{unless_taken}
-use Rattle.cbsrun_loads.specs.Times.{optional_ticks_at}
+use Rattle.cbsrun_entries.specs.Times.{optional_ticks_at}
 use Rattle.cbsrun_loads.specs.TopTables.{top_table}
 use Rattle.cbsrun_loads.specs.declared.sketch.Given.{Given}
 use Rattle.cbsrun_loads.specs.declared.sketch.ServerSketch.{ServerSketch}

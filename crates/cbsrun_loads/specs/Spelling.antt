@@ -13,8 +13,9 @@ use Rattle.cbsrun_toml_tables.specs.declared.fault.Place.TheVariants.{Top, Sourc
 use Rattle.cbsrun_toml_tables.specs.Documents.{at, document, has_key, taken_in}
 use Rattle.cbsrun_toml_tables.specs.Fields.{◌>>=◌, each_from}
 use Rattle.cbsrun_loads.specs.Loads.{LoadFile}
-use Rattle.cbsrun_loads.specs.Servers.{server_entry}
-use Rattle.cbsrun_loads.specs.Sources.{SourceData, due_in_plan, source_entry}
+use Rattle.cbsrun_entries.specs.Servers.{server_entry}
+use Rattle.cbsrun_entries.specs.Sources.{SourceData}
+use Rattle.cbsrun_loads.specs.Due.{due_in_plan, source_entry}
 use Rattle.cbsrun_loads.specs.TopTables.{top_table}
 
 -- whether the file is a load: its top table has the key `load`

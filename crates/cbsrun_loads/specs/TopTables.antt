@@ -8,7 +8,7 @@ use Rattle.cbs_rules.specs.Rules.{clock_end}
 use Rattle.cbsrun_toml_tables.specs.declared.fault.FileKind.{FileKind}
 use Rattle.cbsrun_toml_tables.specs.Fields.{◌>>=◌, with_keys, integer_at, items_at, pair_at, optional_integer_at, within, of_some, sized}
 use Rattle.cbsrun_times.specs.declared.ticks.Rounding.TheVariants.{Up}
-use Rattle.cbsrun_loads.specs.Times.{tick_at, ticks_at}
+use Rattle.cbsrun_entries.specs.Times.{tick_at, ticks_at}
 use Rattle.cbsrun_toml_tables.specs.Plans.{bound_of}
 use Rattle.cbsrun_loads.specs.Loads.{most_sources}
 use Rattle.cbsrun_loads.specs.declared.top.TypedValues.{TypedValues}

@@ -1,66 +1,24 @@
 //! The faults of a load file: the first ones, and how many there are.
 
-ghost use Rattle.std.specs.Prelude.{◌≡◌, ◌≢◌, ◌⊎◌, ◌+◌, ◌^◌, ◌++◌, ◌<◌, ◌≤◌, ℕ, List, [], length, map, string_bytes, Some, IfOk, IfErr, OnOk};
+ghost use Rattle.std.specs.Prelude.{◌≡◌, ◌⊎◌, ◌≤◌, length, map, string_bytes, IfOk, IfErr};
 ghost use Rattle.toml.specs.View.{view, table_view};
 ghost use Rattle.cbs_rate.specs.Limits.{most_servers};
-ghost use Rattle.cbsrun_toml_tables.specs.declared.fault.FileFault.{FileFault};
 ghost use Rattle.cbsrun_toml_tables.specs.declared.fault.FileKind.TheVariants.{OutOfMemory};
 ghost use Rattle.cbsrun_toml_tables.specs.Fields.{Gives};
-ghost use Rattle.cbsrun_loads.specs.Faults.{named_entry, server_faults, source_faults, load_faults, none_named, told_at, AreFaults, BeginWith};
-ghost use Rattle.cbsrun_loads.specs.Sources.{due_in_plan};
+ghost use Rattle.cbsrun_loads.specs.Faults.{named_entry, server_faults, source_faults, load_faults, none_named, BeginWith};
+ghost use Rattle.cbsrun_entries.specs.Noted.{AreFaults};
+ghost use Rattle.cbsrun_loads.specs.Due.{due_in_plan};
 ghost use Rattle.cbsrun_loads.specs.Spelling.{load_in};
 
+use crate::due::source_entry;
 use crate::file::{admit_entry, servers_of};
-use crate::server::{is_taken, server_entry};
-use crate::source::source_entry;
 use crate::top::top_table;
 use cbs_rate::{Bound, Plan};
 use cbs_rules::Setup;
-use cbsrun_toml_tables::{FileFault, FileKind, Place, faulty};
+use cbsrun_entries::{Faults, is_taken, server_entry};
+use cbsrun_toml_tables::{FileKind, Place};
 use std::alloc::{AllocError, Global};
 use toml::{Table, Value};
-
-/// The faults of a file.
-#[derive(Drop)]
-pub struct Faults {
-    /// The first faults, in the order in which the tables are read.
-    pub first: Vec<FileFault>,
-    /// How many faults there are, with those that are not among the first.
-    pub count: u64,
-}
-
-impl Faults {
-    /// Returns no faults.
-    fn new(alloc: Global) -> Faults
-        ensures { (most : ℕ) → AreFaults most [] result }
-    {
-        Faults {
-            first: Vec::new(alloc),
-            count: 0,
-        }
-    }
-
-    /// Notes the fault of this kind at this place, if there is one. At most `most` faults are kept, and all are counted.
-    /// The only error is out of memory.
-    fn note(&mut self, most: usize, place: Place, kind: Option<FileKind>) -> Result<(), AllocError>
-        requires { self.old.count + 1 < 2 ^ 64 }
-        ensures noted { OnOk result ((all : List FileFault) → AreFaults most all self.old
-            → AreFaults most (all ++ told_at place kind) self.new) }
-        ensures memory { OnOk result (kind ≢ Some OutOfMemory) }
-    {
-        let Some(kind) = kind else {
-            return Ok(());
-        };
-        if kind == FileKind::OutOfMemory {
-            return Err(AllocError);
-        }
-        self.count += 1;
-        if self.first.len() < most {
-            self.first.push(faulty(place, kind))?;
-        }
-        Ok(())
-    }
-}
 
 /// Adds the name of the server of one entry. Refuses a name that another server has. Whether the plan takes the server is
 /// not asked.

@@ -9,17 +9,17 @@ ghost use Rattle.cbsrun_toml_tables.specs.declared.fault.Place.TheVariants.{Top,
 ghost use Rattle.cbsrun_toml_tables.specs.Documents.{at, document, no_memory, taken_in};
 ghost use Rattle.cbsrun_toml_tables.specs.Fields.{Gives, each_from};
 ghost use Rattle.cbsrun_toml_tables.specs.Memory.{IsBounded, result_of};
-ghost use Rattle.cbsrun_loads.specs.Loads.{IsSource};
-ghost use Rattle.cbsrun_loads.specs.Sources.{source_entry, sources_view};
+ghost use Rattle.cbsrun_entries.specs.Sources.{IsSource, sources_view};
+ghost use Rattle.cbsrun_loads.specs.Due.{source_entry};
 ghost use Rattle.cbsrun_simulate.specs.Drawing.{AreListed};
 ghost use Rattle.cbsrun_loads.specs.Spelling.{admitted_entry, load, load_in, named_view};
 
+use crate::due::{Due, source_entry};
 use crate::load::Load;
-use crate::server::{is_taken, server_entry};
-use crate::source::{Due, source_entry};
 use crate::top::top_table;
 use cbs_rate::Bound;
 use cbs_rules::Setup;
+use cbsrun_entries::{is_taken, server_entry};
 use cbsrun_simulate::SourceTerms;
 use cbsrun_toml_tables::{
     Bounded, FileFault, FileKind, MEMORY, Place, at, document_within, faulty,

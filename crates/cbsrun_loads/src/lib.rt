@@ -2,22 +2,19 @@
 //! bytes of a TOML document.
 #![tactic(auto)]
 
+mod due;
 mod faults;
 mod file;
-mod listed;
 mod load;
-mod server;
 mod sketch;
 mod sketch_file;
 mod sketch_server;
-mod source;
-mod times;
 mod top;
 
-pub use faults::{Faults, load_faults};
+pub use cbsrun_entries::{Faults, tick_at, ticks, ticks_at};
+pub use faults::load_faults;
 pub use file::{load_in, read_load, read_load_within, servers_of};
 pub use load::Load;
 pub use sketch::{Given, ServerSketch, Sketch};
 pub use sketch_file::read_sketch_within;
-pub use times::{tick_at, ticks, ticks_at};
 pub use top::MAX_SOURCES;

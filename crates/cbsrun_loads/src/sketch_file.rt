@@ -10,13 +10,13 @@ ghost use Rattle.cbsrun_toml_tables.specs.Fields.{Gives};
 ghost use Rattle.cbsrun_toml_tables.specs.Memory.{IsBounded, result_of};
 ghost use Rattle.cbsrun_loads.specs.Sketches.{due_in, due_in_sketch, sketch, sketch_in, sketched_entry, sketched_view};
 
+use crate::due::Due;
 use crate::file::sources_of;
-use crate::server::is_taken;
 use crate::sketch::{Given, ServerSketch, Sketch};
 use crate::sketch_server::sketch_entry;
-use crate::source::Due;
 use crate::top::top_table;
 use cbs_rate::MAX_SERVERS;
+use cbsrun_entries::is_taken;
 use cbsrun_simulate::SourceTerms;
 use cbsrun_toml_tables::{Bounded, FileFault, FileKind, Place, at, document_within, faulty};
 use std::alloc::Global;

@@ -5,9 +5,8 @@ ghost use Rattle.toml.specs.View.{view, table_view};
 ghost use Rattle.cbsrun_toml_tables.specs.Fields.{seen};
 ghost use Rattle.cbsrun_loads.specs.Sketches.{both_or_none, given_by, sketch_entry, sketch_view};
 
-use crate::server::name_of;
 use crate::sketch::{Given, ServerSketch};
-use crate::times::optional_ticks_at;
+use cbsrun_entries::{name_of, optional_ticks_at};
 use cbsrun_times::Rounding;
 use cbsrun_toml_tables::{FileKind, mode_of, optional, reservation, table_with, text_at};
 use toml::{Table, Value};

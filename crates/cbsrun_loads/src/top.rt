@@ -8,10 +8,10 @@ ghost use Rattle.cbsrun_toml_tables.specs.Fields.{seen};
 ghost use Rattle.cbsrun_loads.specs.Loads.{most_sources};
 ghost use Rattle.cbsrun_loads.specs.TopTables.{kind_at, typed_values, spelled_by, top_table, typed_view, top_view};
 
-use crate::times::{tick_at, ticks_at};
 use cbs_core::MAX_BACKLOG;
 use cbs_rate::Bound;
 use cbs_rules::LIMIT;
+use cbsrun_entries::{tick_at, ticks_at};
 use cbsrun_times::Rounding;
 use cbsrun_toml_tables::{
     FileKind, bound_of, integer_at, items_at, optional_integer_at, optional_within, pair_at, sized,

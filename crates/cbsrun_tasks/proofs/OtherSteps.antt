@@ -13,9 +13,10 @@ use Rattle.cbs_rate.specs.Limits.{most_backlog, most_ring}
 use Rattle.cbsrun_toml_tables.specs.declared.fault.FileKind.{FileKind}
 use Rattle.cbsrun_toml_tables.specs.Fields.{◌>>=◌, seen, has_only, has_all, with_keys, of_some, list_of, within, integer_at, text_at, items_at, pair_at}
 use Rattle.cbsrun_toml_tables.specs.Plans.{mode_of, bound_of}
-use Rattle.cbsrun_tasks.specs.declared.format.Format.{Format}
-use Rattle.cbsrun_tasks.specs.declared.format.Format.TheVariants.{One, Two}
-use Rattle.cbsrun_tasks.specs.TopTables.{TypedData, TopData, format_at, keys_of, mode_at, typed_values, spelled_by, top_table}
+use Rattle.cbsrun_task_steps.specs.declared.format.Format.{Format}
+use Rattle.cbsrun_task_steps.specs.declared.format.Format.TheVariants.{One, Two}
+use Rattle.cbsrun_task_steps.specs.Entries.{format_at}
+use Rattle.cbsrun_tasks.specs.TopTables.{TypedData, TopData, keys_of, mode_at, typed_values, spelled_by, top_table}
 use Rattle.cbsrun_toml.specs.Reading.{insert_member}
 
 -- which keys a table has does not depend on the value at one of them

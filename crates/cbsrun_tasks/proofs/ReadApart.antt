@@ -9,7 +9,7 @@ use Rattle.cbsrun_toml_tables.specs.declared.fault.FileKind.{FileKind}
 use Rattle.cbsrun_toml_tables.specs.declared.fault.FileKind.TheVariants.{NotToml}
 use Rattle.cbsrun_toml_tables.specs.declared.fault.FileFault.{FileFault}
 use Rattle.cbsrun_toml_tables.specs.declared.fault.Place.TheVariants.{Top, Step as AtStep}
-use Rattle.cbsrun_tasks.specs.Entries.{step_entry}
+use Rattle.cbsrun_task_steps.specs.Entries.{step_entry}
 use Rattle.cbsrun_toml_tables.specs.Fields.{each_from, list_of}
 use Rattle.cbs_rules.specs.Setups.{ModedPlan, no_servers}
 use Rattle.cbsrun_toml_tables.specs.Documents.{at, document, faulty, has_key, taken_in}
@@ -18,7 +18,7 @@ use Rattle.cbsrun_tasks.specs.TopTables.{TopData, top_table}
 use Rattle.cbsrun_toml.specs.Reading.{insert_member}
 use Rattle.toml.specs.View.{table_view}
 use Rattle.cbsrun_tasks.specs.Streams.{IsDocument}
-use Rattle.cbsrun_tasks.specs.declared.steps.StepsRead.{StepsRead}
+use Rattle.cbsrun_task_steps.specs.declared.steps.StepsRead.{StepsRead}
 use Rattle.cbsrun_tasks.specs.declared.stream.Document.{Document as Doc}
 use Rattle.cbsrun_tasks.proofs.OtherSteps.{get_other, top_steps}
 

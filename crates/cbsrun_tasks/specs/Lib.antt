@@ -1,5 +1,3 @@
-pub mod Entries
-pub mod Plain
 pub mod Spelling
 pub mod Streams
 pub mod TaskFiles
@@ -11,3 +9,4 @@ pub use Rattle.cbsrun_toml_tables.specs.Documents
 pub use Rattle.cbsrun_toml_tables.specs.Fields
 pub use Rattle.cbsrun_toml_tables.specs.declared.fault.FileKind
 pub use Rattle.cbsrun_toml.specs.Reading
+pub use Rattle.cbsrun_task_steps.specs.Entries

@@ -10,7 +10,7 @@ use Rattle.cbsrun_toml_tables.specs.declared.fault.FileKind.TheVariants.{NotAdmi
 use Rattle.cbsrun_toml_tables.specs.declared.fault.FileFault.{FileFault}
 use Rattle.cbsrun_toml_tables.specs.declared.fault.Place.TheVariants.{Top, Step as AtStep}
 use Rattle.cbsrun_toml_tables.specs.Documents.{at, document, taken_in, has_key, no_memory}
-use Rattle.cbsrun_tasks.specs.Entries.{server_entry, step_entry}
+use Rattle.cbsrun_task_steps.specs.Entries.{server_entry, step_entry}
 use Rattle.cbsrun_toml_tables.specs.Fields.{◌>>=◌, each_from}
 use Rattle.cbsrun_tasks.specs.TaskFiles.{File}
 use Rattle.cbsrun_tasks.specs.TopTables.{top_table}

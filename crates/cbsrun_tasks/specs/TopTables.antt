@@ -6,19 +6,13 @@ use Rattle.toml.specs.View.{view}
 use Rattle.cbs_rate.specs.Bound.{Fraction}
 use Rattle.cbs_rules.specs.declared.mode.Mode.{Mode}
 use Rattle.cbsrun_toml_tables.specs.declared.fault.FileKind.{FileKind}
-use Rattle.cbsrun_tasks.specs.declared.format.Format.{Format}
-use Rattle.cbsrun_tasks.specs.declared.format.Format.TheVariants.{One, Two}
+use Rattle.cbsrun_task_steps.specs.declared.format.Format.{Format}
+use Rattle.cbsrun_task_steps.specs.declared.format.Format.TheVariants.{One, Two}
 use Rattle.cbsrun_tasks.specs.declared.top.TopTable.{TopTable}
 use Rattle.cbsrun_tasks.specs.declared.top.TypedValues.{TypedValues}
 use Rattle.cbsrun_toml_tables.specs.Fields.{◌>>=◌, with_keys, integer_at, text_at, items_at, pair_at, within, of_some}
-use Rattle.cbsrun_tasks.specs.Entries.{format_of}
+use Rattle.cbsrun_task_steps.specs.Entries.{format_at}
 use Rattle.cbsrun_toml_tables.specs.Plans.{bound_of, mode_of}
-
--- the format of the file
-abbrev pub format_at : Members → Result Format FileKind
-format_at table = do
-  format_number ← integer_at (codes "format") table
-  format_of format_number
 
 -- the keys of the top table, each of which it must have
 abbrev pub keys_of : Format → List (List ℕ)

@@ -6,19 +6,15 @@ ghost use Rattle.toml.specs.Parse.{parse_document};
 ghost use Rattle.toml.specs.View.{view, table_view};
 ghost use Rattle.cbsrun_toml_tables.specs.declared.fault.FileKind.TheVariants.{OutOfMemory};
 ghost use Rattle.cbsrun_toml_tables.specs.declared.fault.Place.TheVariants.{Step as AtStep};
-ghost use Rattle.cbsrun_tasks.specs.Entries.{step_entry};
+ghost use Rattle.cbsrun_task_steps.specs.Entries.{step_entry, IsFileStep};
 ghost use Rattle.cbsrun_toml_tables.specs.Fields.{Gives, seen, each_from};
 ghost use Rattle.cbsrun_toml_tables.specs.Memory.{IsBounded, result_of};
 ghost use Rattle.cbsrun_tasks.specs.Streams.{IsDocument};
-ghost use Rattle.cbsrun_tasks.specs.TaskFiles.{IsFileStep};
 ghost use Rattle.cbsrun_tasks.specs.Spelling.{file, file_in, admitted_entry};
 ghost use Rattle.cbsrun_toml_tables.specs.Documents.{document, faulty, at, no_memory, taken_in};
 ghost use Rattle.cbs_rate.specs.Limits.{most_servers};
 ghost use Rattle.cbs_rules.specs.Setups.{no_servers};
 
-use crate::entries::{server_entry, step_entry};
-use crate::format::Format;
-use crate::steps::StepsRead;
 use crate::stream::{Document, read_document};
 use crate::task_file::TaskFile;
 use crate::top::top_table;
@@ -26,6 +22,7 @@ use cbs_core::Step;
 use cbs_job::FileJob;
 use cbs_rate::Bound;
 use cbs_rules::{Mode, Setup};
+use cbsrun_task_steps::{Format, server_entry, step_entry};
 use cbsrun_toml::Stop;
 use cbsrun_toml_tables::{
     Bounded, FileFault, FileKind, MEMORY, Place, at, document, faulty, wants_within,
@@ -126,7 +123,7 @@ pub(crate) fn finish(alloc: Global, document: Document) -> Option<Result<TaskFil
         terms,
         read,
     } = document;
-    let StepsRead { steps, fault } = read?;
+    let read = read?;
     let Ok(key) = String::from_str(alloc, "step") else {
         return Some(Err(faulty(Place::Top, FileKind::OutOfMemory)));
     };
@@ -144,14 +141,14 @@ pub(crate) fn finish(alloc: Global, document: Document) -> Option<Result<TaskFil
     if !terms.are_of(top.format, setup.plan().len() as u64) {
         return None;
     }
-    match fault {
-        Some(kind) => Some(Err(faulty(Place::Step(steps.len() as u64), kind))),
-        None => Some(Ok(TaskFile {
+    match read.into_steps() {
+        Ok(steps) => Some(Ok(TaskFile {
             setup,
             backlog: top.backlog,
             ring: top.ring,
             steps,
         })),
+        Err(fault) => Some(Err(fault)),
     }
 }
 

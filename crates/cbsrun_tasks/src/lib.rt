@@ -2,15 +2,10 @@
 //! the bytes of a TOML document.
 #![tactic(auto)]
 
-mod entries;
 mod file;
-mod format;
 mod kinds;
-mod plain;
-mod steps;
 mod stream;
 mod task_file;
-mod terms;
 mod top;
 
 pub use cbsrun_toml_tables::{Bounded, FileFault, FileKind, MEMORY, Place, wants_within};

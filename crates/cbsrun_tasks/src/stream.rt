@@ -7,10 +7,9 @@ ghost use Rattle.toml.specs.View.{table_view};
 ghost use Rattle.toml_parser.specs.Reading.{key_view};
 ghost use Rattle.cbsrun_toml.specs.Reading.{closed};
 ghost use Rattle.cbsrun_tasks.specs.Streams.{ReadsDocument};
-ghost use Rattle.cbsrun_tasks.specs.TaskFiles.{IsFileStep};
+ghost use Rattle.cbsrun_task_steps.specs.Entries.{IsFileStep};
 
-use crate::steps::{StepsRead, step_array, step_tables};
-use crate::terms::Terms;
+use cbsrun_task_steps::{StepsRead, Terms, step_array, step_tables};
 use cbsrun_toml::{Room, Stop, arrays_before, ends_line, key_equals, put, skip_bom, value};
 use std::alloc::Global;
 use std::collections::BTreeMap;

@@ -3,14 +3,14 @@
 ghost use Rattle.std.specs.Prelude.{◌≡◌, ◌≤◌, [], option_map, IfOk};
 ghost use Rattle.toml.specs.View.{table_view};
 ghost use Rattle.cbsrun_toml_tables.specs.Fields.{seen, with_keys, of_some};
-ghost use Rattle.cbsrun_tasks.specs.TopTables.{format_at, keys_of, mode_at, typed_values, spelled_by, top_table, typed_view, top_view};
+ghost use Rattle.cbsrun_tasks.specs.TopTables.{keys_of, mode_at, typed_values, spelled_by, top_table, typed_view, top_view};
 ghost use Rattle.cbsrun_toml_tables.specs.Plans.{bound_of, mode_of};
 ghost use Rattle.cbs_rate.specs.Limits.{most_backlog, most_ring};
 
-use crate::format::{Format, format_of};
 use cbs_core::MAX_BACKLOG;
 use cbs_rate::{Bound, MAX_RING};
 use cbs_rules::Mode;
+use cbsrun_task_steps::{Format, format_at};
 use cbsrun_toml_tables::{
     FileKind, bound_of, integer_at, items_at, mode_of, pair_at, text_at, with_keys, within,
 };
@@ -38,13 +38,6 @@ pub struct TopTable<'a> {
     pub ring: u64,
     pub servers: &'a Vec<Value>,
     pub steps: &'a Vec<Value>,
-}
-
-/// Returns the format of the file. It is tested before everything else.
-pub(crate) fn format_at(table: &Table) -> Result<Format, FileKind>
-    ensures { result ≡ format_at (table_view table.now) }
-{
-    format_of(integer_at(table, "format")?)
 }
 
 /// Tests that the table has each key of its format, and no other.

@@ -2,8 +2,8 @@ use Rattle.std.proofs.Common.{◌≡◌, ◌++◌, ◌∷◌, [], Ok, true, fals
 use Rattle.std.specs.List.{list_any}
 use Rattle.std.proofs.lemmas.List.{map-append}
 use Rattle.toml.specs.View.{view}
-use Rattle.cbsrun_loads.specs.Servers.{server_entry, server_view}
-use Rattle.cbsrun_loads.proofs.Names.{list_any-mapped}
+use Rattle.cbsrun_entries.specs.Servers.{server_entry, server_view}
+use Rattle.cbsrun_entries.proofs.Names.{list_any-mapped}
 use Rattle.cbsrun_loads.proofs.faults.name_entry.Goals as goal
 
 pub returns-then-is_taken-clause-named : goal.returns-then-is_taken-clause-named

@@ -5,7 +5,8 @@ use Rattle.toml.specs.View.{view}
 use Rattle.cbsrun_toml_tables.specs.declared.fault.Place.TheVariants.{Server}
 use Rattle.cbsrun_toml_tables.specs.declared.fault.FileKind.TheVariants.{OutOfMemory}
 use Rattle.cbsrun_toml_tables.specs.Fields.{Gives}
-use Rattle.cbsrun_loads.specs.Faults.{named_entry, told_at}
+use Rattle.cbsrun_entries.specs.Noted.{told_at}
+use Rattle.cbsrun_loads.specs.Faults.{named_entry}
 use Rattle.cbsrun_loads.specs.Spelling.{Named, admitted_entry, named_view}
 use Rattle.cbsrun_loads.proofs.Judged.{first_step, had_none, kept_names, later_step, none_noted, one_more, servers_all, some_noted, still_some}
 use Rattle.cbsrun_loads.proofs.faults.server_faults.Goals.{then-faults-eq0, else-faults-eq0}

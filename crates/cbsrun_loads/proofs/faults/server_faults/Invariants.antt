@@ -1,7 +1,8 @@
 use Rattle.std.proofs.Common.{◌≡◌, ◌≤◌, ◌++◌, List, map, drop, length}
 use Rattle.toml.specs.View.{view}
 use Rattle.cbsrun_toml_tables.specs.declared.fault.FileFault.{FileFault}
-use Rattle.cbsrun_loads.specs.Faults.{AreFaults, none_named, server_faults}
+use Rattle.cbsrun_entries.specs.Noted.{AreFaults}
+use Rattle.cbsrun_loads.specs.Faults.{none_named, server_faults}
 use Rattle.cbsrun_loads.specs.Spelling.{named_view}
 use Rattle.cbsrun_loads.proofs.Judged.{servers_left}
 use Rattle.cbsrun_loads.proofs.faults.server_faults.Given as goal

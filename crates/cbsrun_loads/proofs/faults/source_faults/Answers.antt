@@ -2,8 +2,10 @@ use Rattle.std.proofs.Common.{◌≡◌, ◌++◌, [], map, string_bytes, refl, 
 use Rattle.std.specs.Result.{result_err}
 use Rattle.toml.specs.View.{view}
 use Rattle.cbsrun_toml_tables.specs.declared.fault.Place.TheVariants.{Source}
-use Rattle.cbsrun_loads.specs.Faults.{read_source, told_at}
-use Rattle.cbsrun_loads.specs.Sources.{due_in_plan, source_entry, source_view}
+use Rattle.cbsrun_entries.specs.Noted.{told_at}
+use Rattle.cbsrun_loads.specs.Faults.{read_source}
+use Rattle.cbsrun_entries.specs.Sources.{source_view}
+use Rattle.cbsrun_loads.specs.Due.{due_in_plan, source_entry}
 use Rattle.cbsrun_loads.proofs.Judged.{given_fault, same_fault, one_more, judged_on, judged_all, unit_after}
 use Rattle.cbsrun_loads.proofs.faults.source_faults.Goals as goal
 

@@ -2,8 +2,9 @@ use Rattle.std.proofs.Common.{◌≡◌, ◌≤◌, ◌++◌, List, map, drop, l
 use Rattle.toml.specs.View.{view}
 use Rattle.cbsrun_toml_tables.specs.declared.fault.FileFault.{FileFault}
 use Rattle.cbsrun_toml_tables.specs.declared.fault.Place.TheVariants.{Source}
-use Rattle.cbsrun_loads.specs.Faults.{AreFaults, faults_from, read_source, source_faults}
-use Rattle.cbsrun_loads.specs.Sources.{due_in_plan}
+use Rattle.cbsrun_entries.specs.Noted.{AreFaults}
+use Rattle.cbsrun_loads.specs.Faults.{faults_from, read_source, source_faults}
+use Rattle.cbsrun_loads.specs.Due.{due_in_plan}
 use Rattle.cbsrun_loads.proofs.faults.source_faults.Given as goal
 
 abbrev pub invariant-loop-i : goal.invariant-loop-i

@@ -4,8 +4,8 @@ use Rattle.std.specs.List.{list_any}
 use Rattle.std.proofs.lemmas.List.{map-append}
 use Rattle.toml.specs.View.{view}
 use Rattle.cbs_rate.specs.Plan.{admit_refusal}
-use Rattle.cbsrun_loads.specs.Servers.{server_entry, server_view}
-use Rattle.cbsrun_loads.proofs.Names.{list_any-mapped}
+use Rattle.cbsrun_entries.specs.Servers.{server_entry, server_view}
+use Rattle.cbsrun_entries.proofs.Names.{list_any-mapped}
 use Rattle.cbsrun_loads.proofs.file.admit_entry.Goals as goal
 
 pub returns-then-is_taken-clause-servers : goal.returns-then-is_taken-clause-servers

@@ -8,7 +8,8 @@ use Rattle.cbs_rules.specs.Setups.{no_servers}
 use Rattle.cbsrun_toml_tables.specs.declared.fault.Place.TheVariants.{Source as AtSource}
 use Rattle.cbsrun_toml_tables.specs.Documents.{at, taken_in}
 use Rattle.cbsrun_toml_tables.specs.Fields.{each_from}
-use Rattle.cbsrun_loads.specs.Sources.{due_in_plan, source_entry, sources_view}
+use Rattle.cbsrun_entries.specs.Sources.{sources_view}
+use Rattle.cbsrun_loads.specs.Due.{due_in_plan, source_entry}
 use Rattle.cbsrun_loads.specs.Spelling.{Named, load_in, admitted_entry}
 use Rattle.cbsrun_loads.specs.TopTables.{top_table, top_view}
 use Rattle.cbsrun_loads.proofs.Pairs.{paired_terms, paired_listed}

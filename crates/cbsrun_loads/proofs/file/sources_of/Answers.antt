@@ -10,8 +10,9 @@ use Rattle.cbsrun_toml_tables.specs.declared.fault.Place.TheVariants.{Source as 
 use Rattle.cbsrun_toml_tables.specs.Documents.{at, no_memory}
 use Rattle.cbsrun_toml_tables.proofs.Each.{goes_on, ends, is_done, each_from-map}
 use Rattle.cbsrun_toml_tables.proofs.Places.{Gives-at, gives_ok, gives_err, at_ok}
-use Rattle.cbsrun_loads.specs.Loads.{IsSource}
-use Rattle.cbsrun_loads.specs.Sources.{paired, source_entry, source_view}
+use Rattle.cbsrun_entries.specs.Sources.{IsSource}
+use Rattle.cbsrun_entries.specs.Sources.{paired, source_view}
+use Rattle.cbsrun_loads.specs.Due.{source_entry}
 use Rattle.cbsrun_loads.proofs.Pairs.{paired_push, listed_push}
 use Rattle.cbsrun_loads.proofs.file.sources_of.Goals as goal
 

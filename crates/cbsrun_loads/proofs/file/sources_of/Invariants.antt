@@ -7,8 +7,9 @@ use Rattle.cbsrun_toml_tables.specs.declared.fault.Place.TheVariants.{Source as 
 use Rattle.cbsrun_toml_tables.specs.Documents.{at}
 use Rattle.cbsrun_toml_tables.specs.Fields.{each_from}
 use Rattle.cbsrun_toml_tables.proofs.Each.{with_front}
-use Rattle.cbsrun_loads.specs.Loads.{IsSource}
-use Rattle.cbsrun_loads.specs.Sources.{paired, source_entry}
+use Rattle.cbsrun_entries.specs.Sources.{IsSource}
+use Rattle.cbsrun_entries.specs.Sources.{paired}
+use Rattle.cbsrun_loads.specs.Due.{source_entry}
 use Rattle.cbsrun_loads.proofs.file.sources_of.Given as goal
 
 abbrev pub invariant-loop-i : goal.invariant-loop-i

@@ -5,7 +5,7 @@ use Rattle.std.proofs.lemmas.List.{map-append, length-map}
 use Rattle.toml.specs.View.{view}
 use Rattle.cbs_rate.specs.Limits.{most_servers}
 use Rattle.cbsrun_loads.specs.Sketches.{sketch_entry, sketch_view}
-use Rattle.cbsrun_loads.proofs.Names.{list_any-mapped}
+use Rattle.cbsrun_entries.proofs.Names.{list_any-mapped}
 use Rattle.cbsrun_loads.proofs.sketch_file.add_entry.Goals as goal
 
 pub returns-then-is_taken-clause-servers : goal.returns-then-is_taken-clause-servers

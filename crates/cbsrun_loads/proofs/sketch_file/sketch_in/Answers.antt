@@ -9,7 +9,8 @@ use Rattle.cbsrun_toml_tables.specs.declared.fault.Place.TheVariants.{Source as 
 use Rattle.cbsrun_toml_tables.specs.Documents.{at, taken_in}
 use Rattle.cbsrun_toml_tables.specs.Fields.{each_from}
 use Rattle.cbsrun_loads.specs.Sketches.{Sketched, due_in_sketch, sketch_in, sketched_entry}
-use Rattle.cbsrun_loads.specs.Sources.{source_entry, sources_view}
+use Rattle.cbsrun_entries.specs.Sources.{sources_view}
+use Rattle.cbsrun_loads.specs.Due.{source_entry}
 use Rattle.cbsrun_loads.specs.TopTables.{top_table, top_view}
 use Rattle.cbsrun_loads.proofs.Pairs.{paired_terms, paired_listed}
 use Rattle.cbsrun_loads.proofs.sketch_file.sketch_in.Goals as goal

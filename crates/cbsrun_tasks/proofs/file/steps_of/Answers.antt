@@ -4,9 +4,9 @@ use Rattle.std.proofs.lemmas.List.Elements.{All-push}
 use Rattle.toml.specs.View.{view}
 use Rattle.toml.specs.declared.value.Value.{Value}
 use Rattle.cbsrun_toml_tables.specs.declared.fault.Place.TheVariants.{Step as AtStep}
-use Rattle.cbsrun_tasks.specs.Entries.{step_entry}
+use Rattle.cbsrun_task_steps.specs.Entries.{step_entry}
 use Rattle.cbsrun_toml_tables.specs.Documents.{at, no_memory}
-use Rattle.cbsrun_tasks.specs.TaskFiles.{IsFileStep}
+use Rattle.cbsrun_task_steps.specs.Entries.{IsFileStep}
 use Rattle.cbsrun_toml_tables.proofs.Each.{goes_on, ends, is_done, each_from-map}
 use Rattle.cbsrun_toml_tables.proofs.Places.{Gives-at, gives_ok, gives_err, at_ok}
 use Rattle.cbsrun_tasks.proofs.file.steps_of.Goals as goal

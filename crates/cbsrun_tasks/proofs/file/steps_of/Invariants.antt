@@ -2,10 +2,10 @@ use Rattle.std.proofs.Common.{◌≡◌, drop}
 use Rattle.std.specs.Prelude.{All}
 use Rattle.toml.specs.View.{view}
 use Rattle.cbsrun_toml_tables.specs.declared.fault.Place.TheVariants.{Step as AtStep}
-use Rattle.cbsrun_tasks.specs.Entries.{step_entry}
+use Rattle.cbsrun_task_steps.specs.Entries.{step_entry}
 use Rattle.cbsrun_toml_tables.specs.Fields.{each_from}
 use Rattle.cbsrun_toml_tables.specs.Documents.{at}
-use Rattle.cbsrun_tasks.specs.TaskFiles.{IsFileStep}
+use Rattle.cbsrun_task_steps.specs.Entries.{IsFileStep}
 use Rattle.cbsrun_toml_tables.proofs.Each.{with_front}
 use Rattle.cbsrun_tasks.proofs.file.steps_of.Given as goal
 

@@ -2,7 +2,7 @@ use Rattle.std.proofs.Common.{◌≡◌, rules, Ok, map, sym, length, refl, arit
 use Rattle.std.proofs.lemmas.Grind.{common_steps}
 use Rattle.toml.specs.View.{view, table_view}
 use Rattle.cbsrun_toml_tables.specs.declared.fault.Place.TheVariants.{Step as AtStep}
-use Rattle.cbsrun_tasks.specs.Entries.{step_entry}
+use Rattle.cbsrun_task_steps.specs.Entries.{step_entry}
 use Rattle.cbsrun_toml_tables.specs.Fields.{each_from}
 use Rattle.cbsrun_tasks.specs.Spelling.{admitted_entry}
 use Rattle.cbsrun_toml_tables.specs.Documents.{at, taken_in}

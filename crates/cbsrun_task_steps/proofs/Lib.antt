@@ -1,0 +1,2 @@
+pub mod MoreSteps
+pub mod PlainSteps

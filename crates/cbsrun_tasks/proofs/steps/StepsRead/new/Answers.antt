@@ -1,5 +1,0 @@
-use Rattle.cbsrun_tasks.proofs.StepsRead.{none_yet}
-use Rattle.cbsrun_tasks.proofs.steps.StepsRead.new.Goals as goal
-
-pub returns : goal.returns
-returns c terms = none_yet terms c.new.result.items c.new.ensures.items
