@@ -457,11 +457,20 @@ impl<W: Work, A: Allocator> Core<W, A> {
         self.last.running(self.clock).is_none() && !self.last.unfinished
     }
 
+    /// Returns whether a server can be given an unfinished job back: it is there, it has had a deadline and fewer jobs than
+    /// it may have, and no server runs.
+    pub fn may_give_back(&self, server: u16) -> bool
+        ensures sound { result ≡ true → MayGiveBack self.now server }
+        ensures whole { MayGiveBack self.now server → result ≡ true }
+    {
+        self.is_still() && self.servers.may_give_back(server, self.backlog)
+    }
+
     /// Gives a server of a restored core an unfinished job back, after those that it was given back before, with the units
     /// that the job has left. No rule is applied: the server's budget and deadline stay.
     ///
-    /// Hands the job back, and changes nothing but the room for jobs, if there is no such server, if it has never had a
-    /// deadline or has as many jobs as it may have, if a server runs, or if out of memory.
+    /// Hands the job back if [`may_give_back`](Core::may_give_back) is false, and else only if out of memory. Then nothing
+    /// changes but the room for jobs.
     pub fn give_back(&mut self, server: u16, task: Task<W>) -> Result<(), Task<W>>
         ensures state { OnOk result (self.new ≡ record self.old {
           faces = changed_at with_job_back self.old.faces server;
@@ -474,7 +483,7 @@ impl<W: Work, A: Allocator> Core<W, A> {
             × (self.new ≡ record self.old { rooms = self.new.rooms })) }
         ensures kept { OnErr result (KeepsRoom self.old.rooms self.new.rooms) }
     {
-        if !self.is_still() || !self.servers.may_give_back(server, self.backlog) {
+        if !self.may_give_back(server) {
             return Err(task);
         }
         if self.queues.reserve(server).is_err() {

@@ -77,12 +77,12 @@ fn what_no_run_leads_to_is_refused(rt: HostRuntime) {
     same(&rt, "other", core.restore(1, &past), Err(NotAState));
     same(&rt, "none", core.restore(2, &past), Err(NotAState));
     // Server 1 has had no deadline.
+    same(&rt, "begun", core.may_give_back(1), false);
     let job = core.give_back(1, sum_of(&rt, alloc, &[9])).err();
-    same(&rt, "begun", job.is_some(), true);
+    same(&rt, "handed back", job.is_some(), true);
     restores(&rt, &mut core, &recorded, 0);
     gets(&rt, alloc, &mut core, 0, &[3, 4, 5]);
-    let job = core.give_back(0, sum_of(&rt, alloc, &[7])).err();
-    same(&rt, "backlog", job.is_some(), true);
+    same(&rt, "backlog", core.may_give_back(0), false);
     same(&rt, "jobs", core.restore(0, &past), Err(NotAState));
     let late = LastUnit {
         charged_to: 6,
@@ -109,6 +109,7 @@ fn a_job_is_handed_back_without_memory(rt: HostRuntime) {
     same(&rt, "advance", core.advance(1), Ok(()));
     same(&rt, "restore", core.restore(0, &past), Ok(()));
     let ballast = filled(&rt, alloc, &heap);
+    same(&rt, "may_give_back", core.may_give_back(0), true);
     let job = core.give_back(0, sum_of(&rt, alloc, &[7])).err();
     same(&rt, "handed back", job.is_some(), true);
     drop(ballast);
