@@ -189,3 +189,32 @@ fn a_setup_has_a_mode_for_each_server(rt: HostRuntime) {
         (Some(Mode::Throttled), Some(Mode::Soft)),
     );
 }
+
+/// A state of a server with 3 in every 10 ticks: its budget, its deadline, whether it is throttled, its overrun, and whether
+/// a server may have it.
+type Stand = (u64, u128, bool, u64, bool);
+
+/// States, and whether a server may have them.
+static STANDS: [Stand; 9] = [
+    (0, 0, false, 0, true),
+    (1, 0, false, 0, false),
+    (3, 20, false, 0, true),
+    (4, 20, false, 0, false),
+    (0, 20, false, 0, false),
+    (0, 20, true, 2, true),
+    (0, 20, true, 3, false),
+    (1, 20, true, 0, false),
+    (2, 20, false, 1, false),
+];
+
+#[test]
+fn a_server_stands_in_the_midst_of_a_run(rt: HostRuntime) {
+    let reservation = Reservation::new(3, 10).expect(&rt, "a reservation");
+    for (place, &(budget, deadline, throttled, overrun, may)) in STANDS.iter().enumerate() {
+        let server = ServerState::at(reservation, budget, deadline, throttled, overrun);
+        same_at(&rt, ("STANDS", place), "at", server.is_some(), may);
+    }
+    let server = ServerState::at(reservation, 0, 20, true, 2).expect(&rt, "a state");
+    same(&rt, "is_of", server.is_of(reservation), true);
+    shows(&rt, ("a throttled server", 0), &server, (0, 20, true));
+}
