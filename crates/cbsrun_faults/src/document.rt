@@ -119,9 +119,12 @@ pub(crate) fn name_of(entry: &Value) -> Option<&str>
 
 /// Returns the number of the first server with this name, or `None` if there is none.
 pub(crate) fn server_named(servers: &[Value], name: &str) -> Option<usize> {
-    servers
-        .iter()
-        .position(|entry| name_of(entry) == Some(name))
+    for (place, entry) in servers.iter().enumerate() {
+        if name_of(entry) == Some(name) {
+            return Some(place);
+        }
+    }
+    None
 }
 
 /// Returns the names of servers. The only error is out of memory.

@@ -35,16 +35,22 @@ fn fault_of(key: Key, table: &Table, spot: &Spot<'_>) -> Option<FileKind> {
 
 /// Returns the first key with a fault of this kind, or `None` if there is none.
 fn first_key(kind: FileKind, table: &Table, spot: &Spot<'_>) -> Option<Key> {
-    let mut keys = spot.subject.keys().iter().copied();
-    keys.find(|key| fault_of(*key, table, spot) == Some(kind))
+    for key in spot.subject.keys() {
+        if fault_of(*key, table, spot) == Some(kind) {
+            return Some(*key);
+        }
+    }
+    None
 }
 
 /// Returns the first key that a table may not have, or `None` if there is none.
 fn unknown<'a>(table: &'a Table, subject: Subject) -> Option<Finding<'a>> {
-    let (name, value) = table
-        .iter()
-        .find(|entry| !subject.has_key(entry.0.as_str()))?;
-    Some(Finding::Unknown(name.as_str(), value))
+    for (name, value) in table.iter() {
+        if !subject.has_key(name.as_str()) {
+            return Some(Finding::Unknown(name.as_str(), value));
+        }
+    }
+    None
 }
 
 /// Returns the number of the first server with the name of an entry, or `None` if there is none.

@@ -309,7 +309,12 @@ impl Subject {
 
     /// Returns whether tables of this kind have a key.
     pub(crate) fn has_key(self, name: &str) -> bool {
-        self.keys().iter().any(|key| key.name == name)
+        for key in self.keys() {
+            if key.name == name {
+                return true;
+            }
+        }
+        false
     }
 
     /// Returns the words for such a table.

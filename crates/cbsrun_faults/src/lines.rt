@@ -112,6 +112,8 @@ pub fn header_line(alloc: Global, spot: &Spot<'_>) -> Result<Option<usize>, Allo
         return Ok(None);
     }
     let text = spot.document.text;
-    let below = if_plain(table_at(alloc, text, spot.place))?;
-    Ok(below.map(|below| line_number(before(text, below))))
+    match if_plain(table_at(alloc, text, spot.place))? {
+        Some(below) => Ok(Some(line_number(before(text, below)))),
+        None => Ok(None),
+    }
 }

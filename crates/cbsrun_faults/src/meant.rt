@@ -112,19 +112,24 @@ fn others(subject: Subject) -> &'static [Other] {
 
 /// Returns the key for a word of other tools, or `None` if there is none or the table has it.
 fn synonym(subject: Subject, table: &Table, word: &str) -> Option<&'static str> {
-    let mut words = synonyms(subject).iter().copied();
-    let (_, key) = words.find(|synonym| synonym.0.eq_ignore_ascii_case(word))?;
-    match optional(table, key) {
-        Some(_) => None,
-        None => Some(key),
+    for synonym in synonyms(subject) {
+        let (other, key) = *synonym;
+        if other.eq_ignore_ascii_case(word) && optional(table, key).is_none() {
+            return Some(key);
+        }
     }
+    None
 }
 
 /// Returns what a kind of table is called that has a key, or `None` if there is none.
 fn elsewhere(subject: Subject, name: &str) -> Option<&'static str> {
-    let mut kinds = others(subject).iter().copied();
-    let (_, phrase) = kinds.find(|other| other.0.has_key(name))?;
-    Some(phrase)
+    for other in others(subject) {
+        let (kind, phrase) = *other;
+        if kind.has_key(name) {
+            return Some(phrase);
+        }
+    }
+    None
 }
 
 /// Returns what may be meant by a key that the table may not have, or `None` if nothing is known. The only error is out

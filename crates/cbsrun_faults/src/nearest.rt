@@ -40,10 +40,13 @@ fn absent_keys(
     spot: &Spot<'_>,
     table: &Table,
 ) -> Result<Vec<&'static str>, AllocError> {
-    let keys = spot.subject.keys().iter();
-    keys.filter(|key| optional(table, key.name).is_none())
-        .map(|key| key.name)
-        .collect(alloc)
+    let mut absent = Vec::new(alloc);
+    for key in spot.subject.keys() {
+        if optional(table, key.name).is_none() {
+            absent.push(key.name)?;
+        }
+    }
+    Ok(absent)
 }
 
 /// Returns the key that may be meant by a key which the table may not have. That is the nearest of the keys which the

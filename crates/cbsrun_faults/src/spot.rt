@@ -87,31 +87,50 @@ fn server_subject(kind: Kind) -> Subject {
     }
 }
 
-/// Returns the kind of a step of a record, by its `op`.
-fn record_subject(entry: &Value) -> Subject {
-    match text_at(entry, "op") {
-        Some("submit") => Subject::CountedSubmit,
-        Some("run") => Subject::Runs,
-        Some("advance") => Subject::Advance,
-        Some("close") => Subject::Close,
-        Some("charge") => Subject::Charge,
-        _ => Subject::RecordStep,
+/// An `op`, and the kind of the steps that have it.
+type Step = (&'static str, Subject);
+
+static STEPS: [Step; 4] = [
+    ("submit", Subject::Submit),
+    ("run", Subject::Run),
+    ("advance", Subject::Advance),
+    ("close", Subject::Close),
+];
+
+static OLD_STEPS: [Step; 4] = [
+    ("submit", Subject::Submit),
+    ("run", Subject::Run),
+    ("advance", Subject::OldAdvance),
+    ("close", Subject::Close),
+];
+
+static RECORD_STEPS: [Step; 5] = [
+    ("submit", Subject::CountedSubmit),
+    ("run", Subject::Runs),
+    ("advance", Subject::Advance),
+    ("close", Subject::Close),
+    ("charge", Subject::Charge),
+];
+
+/// Returns the steps of a document of this kind, and the kind of a step that is none of them.
+fn steps(kind: Kind) -> (&'static [Step], Subject) {
+    match kind {
+        Kind::Record => (&RECORD_STEPS, Subject::RecordStep),
+        Kind::FormatOne => (&OLD_STEPS, Subject::Step),
+        Kind::FormatTwo | Kind::Load => (&STEPS, Subject::Step),
     }
 }
 
 /// Returns the kind of a step, by its `op`.
 fn step_subject(kind: Kind, entry: &Value) -> Subject {
-    if kind == Kind::Record {
-        return record_subject(entry);
+    let (steps, other) = steps(kind);
+    let op = text_at(entry, "op");
+    for step in steps {
+        if op == Some(step.0) {
+            return step.1;
+        }
     }
-    match text_at(entry, "op") {
-        Some("submit") => Subject::Submit,
-        Some("run") => Subject::Run,
-        Some("advance") if kind == Kind::FormatOne => Subject::OldAdvance,
-        Some("advance") => Subject::Advance,
-        Some("close") => Subject::Close,
-        _ => Subject::Step,
-    }
+    other
 }
 
 /// Returns what is written about a server.

@@ -47,10 +47,12 @@ fn whole(tick: Option<u64>, key: Key, value: &Value) -> Result<i64, FileKind> {
 
 /// Returns the place, from 1, of the first value that is no number of a unit, or `None` if there is none.
 pub fn first_bad_unit(values: &[Value]) -> Option<usize> {
-    let place = values
-        .iter()
-        .position(|value| number(0, MAX_NUMBER, value).is_err())?;
-    Some(place + 1)
+    for (place, value) in values.iter().enumerate() {
+        if number(0, MAX_NUMBER, value).is_err() {
+            return Some(place + 1);
+        }
+    }
+    None
 }
 
 /// Returns the least and the greatest number of a range, in a file with this tick. One number stands for both.
