@@ -17,3 +17,6 @@ returns c text reads =
     c.in_ok-at_units.ensures units_are c.in_ok-units.ensures.shorter
     c.in_ok-rest.ensures few are c.in_ok-units.ensures.some c.in_ok-units.ensures.few
     (sym c.job_of.ensures ∙ c.in-Ok.is ∙ ap (λ j. Ok j) (sym c.in-Ok-new.ensures.ok))
+
+pub job_of-requires : goal.job_of-requires
+job_of-requires c = c.in_ok-units.ensures.few

@@ -11,3 +11,12 @@ returns-clause-value c layout =
     let less = c.skip.ensures.shorter in
     let (ds, read, are) = c.in_ok-units.ensures.value (under layout) (length c.args.s.now) (omega arith) in
     (ds, units_read layout c.args.s.now c.skip.result.now c.in_ok-units.rest.now ds opens c.skip.ensures.rest read, are)
+
+pub returns-clause-few : goal.returns-clause-few
+returns-clause-few c = c.in_ok-units.ensures.few
+
+pub returns-clause-shorter : goal.returns-clause-shorter
+returns-clause-shorter c =
+    let less = c.skip.ensures.shorter in
+    let rest = c.in_ok-units.ensures.shorter in
+    omega arith
