@@ -5,8 +5,8 @@ ghost use Rattle.cbsrun_commands.specs.Drawings.{TellsDrawn, cut_line, cut_of};
 ghost use Rattle.cbsrun_lines.specs.Writers.{FailsToWrite, MayWrite, Writes};
 
 use crate::ending::{DONE, Stopped, WRONG_WORDS, status_of};
-use cbsrun_options::RunDrawing;
 use cbsrun_io::{ByteOutput, write_pieces};
+use cbsrun_options::RunDrawing;
 use itoa::Buffer;
 use std::alloc::Global;
 use std::io;

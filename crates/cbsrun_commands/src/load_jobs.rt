@@ -6,8 +6,8 @@ ghost use Rattle.cbsrun_lines.specs.Writers.{MayWrite};
 
 use crate::ending::{Stopped, print, status_of};
 use crate::reading::load_file;
-use cbsrun_options::Changes;
 use cbsrun_io::ByteOutput;
+use cbsrun_options::Changes;
 use cbsrun_runs::{Progress, csv_of};
 use std::alloc::Global;
 

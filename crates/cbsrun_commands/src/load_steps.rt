@@ -6,9 +6,9 @@ ghost use Rattle.cbsrun_lines.specs.Writers.{MayWrite};
 
 use crate::ending::{Stopped, status_of};
 use crate::reading::load_file;
-use cbsrun_options::Changes;
 use cbsrun_io::ByteOutput;
 use cbsrun_lines::write_lines;
+use cbsrun_options::Changes;
 use std::alloc::Global;
 
 /// Simulates the load that the bytes spell, with these changes, and writes a line for each step.

@@ -9,8 +9,8 @@ ghost use Rattle.cbsrun_commands.specs.Outputs.{changed, changed_load};
 ghost use Rattle.cbsrun_toml_tables.specs.Documents.{no_memory};
 ghost use Rattle.cbsrun_toml_tables.specs.Fields.{Gives};
 
-use cbsrun_options::Changes;
 use cbsrun_loads::{Load, Sketch, read_load_within, read_sketch_within};
+use cbsrun_options::Changes;
 use cbsrun_records::{Record, read_record_within};
 use cbsrun_tasks::{FileFault, TaskFile, read_file_within};
 use std::alloc::Global;

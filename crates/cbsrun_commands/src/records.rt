@@ -11,9 +11,9 @@ use crate::ending::{Stopped, status_of};
 use crate::pictures::print_drawing;
 use crate::reading::record_file;
 use crate::report::print_run;
-use cbsrun_options::{Form, RunDrawing};
 use cbsrun_io::ByteOutput;
 use cbsrun_lines::write_lines;
+use cbsrun_options::{Form, RunDrawing};
 use cbsrun_runs::{NoProgress, end_of};
 use std::alloc::Global;
 

@@ -10,10 +10,10 @@ ghost use Rattle.cbsrun_lines.specs.Writers.{MayWrite};
 
 use crate::ending::{Stopped, print, status_by_answer, status_of};
 use crate::reading::{load_file, task_file};
-use cbsrun_options::{Form, LoadReport};
 use cbsrun_io::ByteOutput;
 use cbsrun_lines::RunError;
 use cbsrun_loads::Load;
+use cbsrun_options::{Form, LoadReport};
 use cbsrun_report_json::report_json;
 use cbsrun_report_text::{RunReport, report_text};
 use cbsrun_runs::{NoProgress, Progress, Replay, Run, report_of};

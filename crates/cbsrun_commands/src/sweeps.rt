@@ -9,9 +9,9 @@ ghost use Rattle.cbsrun_lines.specs.Writers.{MayWrite};
 
 use crate::ending::{Stopped, print, status_by_answer};
 use crate::reading::load_file;
-use cbsrun_options::{LoadSweep, Seeds, SweepForm};
 use cbsrun_io::ByteOutput;
 use cbsrun_loads::Load;
+use cbsrun_options::{LoadSweep, Seeds, SweepForm};
 use cbsrun_sweep_texts::{sweep_csv, sweep_json, sweep_text};
 use cbsrun_sweeps::{Sweep, sweep_of};
 use std::alloc::{AllocError, Global};
