@@ -214,7 +214,10 @@ impl Recorder {
         house: &mut House<T>,
         take: fn(&mut House<T>, &mut Vec<u8>) -> Result<(), TapeError>,
     ) {
-        let Some(to) = &mut self.to else { return };
+        let to = match &mut self.to {
+            Some(to) => to,
+            None => return,
+        };
         self.buffer.clear();
         let taken = take(house, &mut self.buffer).map_err(io::Error::from);
         let written = taken
