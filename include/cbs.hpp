@@ -13,7 +13,7 @@
 // and a Client for each server, for the threads that send. A Job is a callable: the serving thread
 // calls the job once for each of the job's units. A plain token is a number in the place of a job.
 // A Realtime serves a house in real time. A Live reads figures of the servers meanwhile. A Recorder
-// writes what the house did to a file.
+// writes what the house did to a file, by the serving thread or by a thread of its own.
 //
 // WHO OWNS WHAT. Houses, clients and jobs are moved and never copied, and free themselves. A client
 // that is freed ends. Every send, every end and every client that is freed wakes the house. A house
@@ -39,6 +39,7 @@
 #define CBS_HPP
 
 #include "cbs_realtime.h"
+#include "cbs_record_thread.h"
 #include <algorithm>
 #include <array>
 #include <atomic>
@@ -1215,6 +1216,10 @@ struct RecordSettings {
     std::chrono::nanoseconds tick{0}; // how long a tick is, at most a second; 0: not told
     std::uint32_t bytes = 65536;      // so many the steps between two writes may take
     std::uint64_t every = 0;          // so many ticks pass at least between two writes
+    // With 0 the serving thread writes, and waits for the file. Else a thread writes, from so many
+    // blocks of `bytes` bytes, and the serving thread never waits: cbs_record_thread.h says how. The
+    // thread has the priority and the processors of the one that makes the Recorder.
+    std::uint32_t blocks = 0;
 };
 
 // Writes the steps of a house to a file, which `cbsrun replay FILE` makes again. Make it before the
@@ -1224,7 +1229,7 @@ class Recorder {
 public:
     // Opens the file, which is written anew, and has the house tell its steps.
     // Throws std::system_error with the error number: EINVAL for a wrong name or tick, and if the
-    // house is not open or made a step before; ENOMEM, or that of the file.
+    // house is not open or made a step before; ENOMEM, or that of the file or of the thread.
     Recorder(House &house, const std::string &path, const RecordSettings &settings = {})
         : served(house) {
         const std::shared_ptr<detail::Shared> shared = house.shared;
@@ -1240,7 +1245,11 @@ public:
                                     static_cast<std::uint64_t>(settings.tick.count()),
                                     settings.bytes);
         }
+        if (error == 0 && settings.blocks > 0) {
+            error = cbs_record_thread_open(&thread, &own, settings.blocks);
+        }
         if (error != 0) {
+            cbs_record_close(&own, served.handle.get());
             throw std::system_error(error, std::generic_category(), path);
         }
         own.every = settings.every;
@@ -1249,12 +1258,12 @@ public:
     Recorder &operator=(const Recorder &) = delete;
     ~Recorder() { close(); }
 
-    // Writes the steps that the house made since the last write, if `every` ticks have passed.
-    // Realtime does it, if it has this recorder.
+    // Writes the steps that the house made since the last write, or gives the thread these steps,
+    // if `every` ticks have passed. Realtime does it, if it has this recorder.
     void step() noexcept { cbs_record_step(&own, served.handle.get()); }
 
     // Writes the last steps, and the mark of the end, unless a step was lost. The house goes on
-    // with no tape.
+    // with no tape. This waits for the file, and ends the thread. The destructor does it, too.
     //
     // Returns what ended the recording, now or before; no error if nothing did.
     std::error_code close() noexcept {
@@ -1262,10 +1271,11 @@ public:
         return error();
     }
 
-    // Returns what ended the recording; no error if nothing did.
+    // Returns what ended the recording; no error if nothing did. A step or the close learns it of
+    // the thread.
     std::error_code error() const noexcept { return {own.error, std::generic_category()}; }
 
-    // Returns how many bytes of steps are in the file.
+    // Returns how many bytes of steps are in the file: by the last step, if a thread writes.
     std::uint64_t bytes() const noexcept { return own.bytes; }
 
 private:
@@ -1273,6 +1283,7 @@ private:
 
     House &served;
     cbs_recorder own{};
+    cbs_record_thread thread{};
 };
 
 // ---- Real time: by the serving thread ----

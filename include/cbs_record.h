@@ -9,7 +9,8 @@
  *     ..
  *     int error = cbs_record_close(&recorder, &house);
  *
- * A loop of cbs_realtime.h takes the steps itself, if its field `recorder` is set.
+ * A loop of cbs_realtime.h takes the steps itself, if its field `recorder` is set. With cbs_record_thread.h a thread writes the
+ * file, and the serving thread never waits for it.
  *
  * The file is a record with a tape: a text that says what the servers are, a zero byte, and then a byte or two for each step. What
  * cbs_record_step wrote is in the file also if the process is killed then; what it did not write is lost with the process. An
@@ -35,6 +36,10 @@ struct cbs_recorder {
     bool lost;      /* after the close: whether a step was lost, so that the file has only those before it */
     uint64_t bytes; /* how many bytes of steps are in the file */
     uint64_t next;  /* the tick from which on cbs_record_step writes again */
+    /* Of cbs_record_thread.h: the thread that writes, and how it is given steps and ends. NULL: the calls here write. */
+    void *thread;
+    bool (*give)(struct cbs_recorder *recorder, struct cbs_handle *house);
+    void (*join)(struct cbs_recorder *recorder, struct cbs_handle *house);
 };
 
 /* Writes the name of server i: names[i], or server-I if there is none. */
@@ -152,33 +157,50 @@ static inline int cbs_record_open(struct cbs_recorder *recorder, struct cbs_hand
     return 0;
 }
 
+/* Writes n bytes to the file. Returns 0, or an error number. */
+static inline int cbs_record_put(FILE *file, const uint8_t *bytes, size_t n) {
+    errno = 0;
+    if (fwrite(bytes, 1, n, file) == n && fflush(file) == 0) {
+        return 0;
+    }
+    return errno != 0 ? errno : EIO;
+}
+
 /* Writes the steps that the house made since the last write. */
 static inline void cbs_record_write(struct cbs_recorder *recorder, struct cbs_handle *house) {
     size_t length = 0;
     if (recorder->file == NULL || cbs_tape_take(house, recorder->buffer, recorder->size, &length) != CBS_OK || length == 0) {
         return;
     }
-    errno = 0;
-    if (fwrite(recorder->buffer, 1, length, recorder->file) != length || fflush(recorder->file) != 0) {
-        cbs_record_fail(recorder, house, errno);
+    int error = cbs_record_put(recorder->file, recorder->buffer, length);
+    if (error != 0) {
+        cbs_record_fail(recorder, house, error);
         return;
     }
     recorder->bytes += length;
 }
 
 /* Writes the steps that the house made since the last write, if `every` ticks have passed. By the serving thread, between two
- * calls of the house. It takes no memory, and waits as long as one write to the file does. */
+ * calls of the house. It takes no memory, and waits as long as one write to the file does; with cbs_record_thread.h not at all. */
 static inline void cbs_record_step(struct cbs_recorder *recorder, struct cbs_handle *house) {
     uint64_t now = 0;
-    if (recorder->file != NULL && cbs_now(house, &now) == CBS_OK && now >= recorder->next) {
-        recorder->next = now + recorder->every;
-        cbs_record_write(recorder, house);
+    if (recorder->file == NULL || cbs_now(house, &now) != CBS_OK || now < recorder->next) {
+        return;
     }
+    if (recorder->thread == NULL) {
+        cbs_record_write(recorder, house);
+    } else if (!recorder->give(recorder, house)) {
+        return; /* the next step tries again */
+    }
+    recorder->next = now + recorder->every;
 }
 
 /* Writes the last steps, and the mark of the end, unless a step was lost. Closes the file, and the house goes on with no tape.
  * Returns 0, or the error number that ended the recording, now or before. */
 static inline int cbs_record_close(struct cbs_recorder *recorder, struct cbs_handle *house) {
+    if (recorder->thread != NULL) {
+        recorder->join(recorder, house);
+    }
     cbs_record_write(recorder, house);
     if (recorder->file == NULL) {
         return recorder->error;

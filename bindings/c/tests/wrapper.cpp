@@ -20,6 +20,8 @@
 #include <type_traits>
 #include <utility>
 #include <vector>
+#include <fcntl.h>
+#include <sys/stat.h>
 #include <unistd.h>
 
 using namespace std::chrono_literals;
@@ -658,6 +660,11 @@ static void tapes() {
     CHECK((tape == std::vector<std::uint8_t>{2, 7})); // no mark
 }
 
+static std::string file_at(const std::string &path) {
+    std::ifstream file(path, std::ios::binary);
+    return std::string((std::istreambuf_iterator<char>(file)), std::istreambuf_iterator<char>());
+}
+
 // The file of a recorder, which a loop in real time writes to as well; and files that there are not.
 static void recorders() {
     const std::string path = "/tmp/cbs-wrapper-" + std::to_string(getpid());
@@ -690,11 +697,59 @@ static void recorders() {
     realtime.record_to(recorder);
     CHECK(realtime.run() == cbs::Ended::Closed && recorder.bytes() >= 6); // two units, and the end
     CHECK(!recorder.close() && !recorder.close());
-    std::ifstream file(path, std::ios::binary);
-    const std::string written((std::istreambuf_iterator<char>(file)), std::istreambuf_iterator<char>());
+    const std::string written = file_at(path);
     const std::string head = "record = 1\ntick = \"1000 ns\"\nbound = [1, 1]\nbacklog = 4\nserver = [\n"
                              "  { name = \"laundry\", mode = \"soft\", budget = 2, period = 5 },\n]\n";
     CHECK(written.substr(0, head.size() + 4) == head + std::string("\0\x40\x03\xC0", 4) && written.back() == 4);
+    std::remove(path.c_str());
+}
+
+// Returns what a recorder with so many blocks leaves in the file. Its close, or else its destructor, ends it.
+static std::string recorded(const std::string &path, std::uint32_t blocks, bool closes) {
+    auto [house, clients] = open(cbs::Mode::Soft, 4, 4);
+    cbs::RecordSettings settings;
+    settings.every = 5;
+    settings.blocks = blocks;
+    {
+        cbs::Recorder recorder(house, path, settings);
+        for (std::uint64_t job = 0; job < 300; job++) {
+            CHECK(clients[0].send(job, 1) == cbs::Send::Sent && house.turn().ran.unit->last);
+            recorder.step();
+        }
+        clients.clear();
+        CHECK(house.turn().over);
+        CHECK(!closes || (!recorder.close() && recorder.bytes() > 900 && !recorder.close()));
+    }
+    throws(CBS_CALL_NO_TAPE, [&house = house] { house.tape_lost(); });
+    return file_at(path);
+}
+
+// A thread that writes: the file of the serving thread, more blocks than there may be, and a pipe that nobody reads any more.
+static void recorders_with_a_thread() {
+    const std::string path = "/tmp/cbs-wrapper-thread-" + std::to_string(getpid());
+    const std::string wanted = recorded(path, 0, true);
+    CHECK(wanted.back() == 4 && recorded(path, 1, true) == wanted);
+    CHECK(recorded(path, 8, true) == wanted && recorded(path, 2, false) == wanted);
+    auto [house, clients] = open(cbs::Mode::Soft, 4, 4);
+    cbs::RecordSettings settings;
+    settings.blocks = UINT32_MAX;
+    bool thrown = false;
+    try {
+        cbs::Recorder none(house, path, settings);
+    } catch (const std::system_error &error) {
+        thrown = error.code() == std::errc::invalid_argument;
+    }
+    CHECK(thrown && std::remove(path.c_str()) == 0 && mkfifo(path.c_str(), 0600) == 0);
+    const int end = ::open(path.c_str(), O_RDONLY | O_NONBLOCK);
+    settings.blocks = 2;
+    cbs::Recorder recorder(house, path, settings);
+    CHECK(end >= 0 && ::close(end) == 0);
+    CHECK(clients[0].send(7, 3) == cbs::Send::Sent && house.turn().took == 1);
+    for (recorder.step(); !recorder.error(); recorder.step()) {
+        std::this_thread::sleep_for(100us);
+    }
+    CHECK(house.turn().ran.unit && recorder.bytes() == 0); // the house goes on
+    CHECK(recorder.close() == std::errc::broken_pipe);
     std::remove(path.c_str());
 }
 
@@ -702,6 +757,7 @@ int main() {
     ends_early();
     tapes();
     recorders();
+    recorders_with_a_thread();
     figures();
     figures_of_a_loop();
     plans();

@@ -586,9 +586,14 @@ impl<T> House<T> {
     pub fn take_tape(&mut self, out: &mut Vec<u8>) -> Result<(), TapeError> {
         let before = out.len();
         out.resize(before + self.tape, 0);
-        let taken = ffi::tape_take(&mut self.handle, &mut out[before..]);
+        let taken = self.move_tape(&mut out[before..]);
         out.truncate(before + taken.unwrap_or(0));
-        taken.map(|_| ()).map_err(TapeError::of)
+        taken.map(|_| ())
+    }
+
+    /// Moves what the tape has so far to `out`, which has as much memory as the tape. Returns how many bytes it is.
+    pub(crate) fn move_tape(&mut self, out: &mut [u8]) -> Result<usize, TapeError> {
+        ffi::tape_take(&mut self.handle, out).map_err(TapeError::of)
     }
 
     /// Returns whether the tape lost a step, so that it has only those before.

@@ -46,6 +46,7 @@
 
 #![deny(missing_docs, missing_debug_implementations, unsafe_code)]
 
+mod background;
 mod bell;
 mod client;
 mod doing;

@@ -313,7 +313,10 @@ impl Keeper {
 
     /// Notes the unit that was told, if one was, and how far the house's clock went on.
     fn told(&mut self, kept: &mut Kept, house: &Handle, next: &ffi::Next) {
-        let Ok(clock) = ffi::now(house) else { return };
+        let clock = match ffi::now(house) {
+            Ok(clock) => clock,
+            Err(_) => return,
+        };
         let unit = Some(next.unit).filter(|_| next.kind == kind::NEXT_UNIT);
         let before = clock - u64::from(unit.is_some()); // without the unit that is being done
         kept.ticks = before - *self.first.get_or_insert(before);

@@ -22,7 +22,26 @@
 //!
 //! The file is a record with a tape: a text that says what the servers are, a zero byte, and then a byte or two for each step. What
 //! [`step`](Recorder::step) wrote is in the file also if the process is killed then; what it did not write is lost with the process.
+//!
+//! The serving thread waits for the writer, unless [`blocks`](Settings::blocks) are set: then a thread of its own writes.
+//!
+//! ```
+//! # use cbs::record::{Recorder, Settings};
+//! # use cbs::{Mode, Plan};
+//! # let mut plan = Plan::new();
+//! # plan.admit(2, 5, Mode::Soft)?;
+//! # let (mut house, mut clients) = plan.open(4, 4)?;
+//! # let file = std::io::sink();
+//! let settings = Settings { blocks: 4, ..Settings::default() };
+//! let mut recorder = Recorder::new(&mut house, file, &settings)?;
+//! clients[0].send("wash", 3)?;
+//! house.turn();
+//! recorder.step(&mut house); // gives the steps to the thread, and never waits
+//! recorder.end(&mut house)?; // waits for the thread
+//! # Ok::<(), Box<dyn std::error::Error>>(())
+//! ```
 
+use crate::background::{Background, To};
 use crate::error::TapeError;
 use crate::ffi::Server;
 use crate::house::House;
@@ -42,6 +61,16 @@ pub struct Settings {
     pub bytes: u32,
     /// How many ticks pass at least between two writes. With 0 each [`Recorder::step`] writes.
     pub every: u64,
+    /// How many blocks of `bytes` bytes a thread has that writes. With 0 there is none: the serving thread writes, and waits for
+    /// the writer.
+    ///
+    /// With blocks it never waits. A step moves what the tape has into a free block, and the thread writes that. If no block is
+    /// free the bytes stay on the tape, until a later step. If the tape gets full meanwhile steps are lost, which
+    /// [`House::tape_lost`] tells before the end: the file then has only the steps before. What the thread has not written is
+    /// lost if the process is killed.
+    ///
+    /// The thread inherits the priority and the processors of the one that makes the recorder.
+    pub blocks: usize,
 }
 
 impl Default for Settings {
@@ -51,15 +80,21 @@ impl Default for Settings {
             tick: None,
             bytes: 1 << 16,
             every: 0,
+            blocks: 0,
         }
     }
 }
 
 /// Writes the steps of a house.
 ///
-/// An error of the writer ends the recording, and never the house.
+/// An error of the writer ends the recording, and never the house. If a thread writes, a panic of the writer is such an error.
+///
+/// A recorder that is dropped with no [`end`](Recorder::end) writes nothing more, and no mark. If a thread writes, the drop waits
+/// until it has written what it was given.
 pub struct Recorder {
-    to: Option<Box<dyn Write + Send>>,
+    to: Option<To>,
+    /// The thread that writes, if one does.
+    background: Option<Background>,
     error: Option<io::Error>,
     buffer: Vec<u8>,
     bytes: u64,
@@ -148,8 +183,8 @@ impl Recorder {
     ///
     /// # Errors
     ///
-    /// A house that made a step before, a name or a tick that no record may have, no memory for a tape, or what the writer gave.
-    /// The house is then not recorded.
+    /// A house that made a step before, a name or a tick that no record may have, no memory for a tape, no thread, or what the
+    /// writer gave. The house is then not recorded.
     pub fn new<T>(
         house: &mut House<T>,
         to: impl Write + Send + 'static,
@@ -159,12 +194,20 @@ impl Recorder {
             return Err(wrong("the house made a step before".into()));
         }
         let head = settings.head(house.rates(), house.backlog())?;
-        let mut to: Box<dyn Write + Send> = Box::new(to);
+        let mut to: To = Box::new(to);
         to.write_all(head.as_bytes())?;
         to.flush()?;
+        let (to, background) = match settings.blocks {
+            0 => (Some(to), None),
+            blocks => {
+                let size = settings.bytes as usize + 31; // that of the tape
+                (None, Some(Background::new(to, blocks, size)?))
+            }
+        };
         house.record(settings.bytes)?;
         Ok(Recorder {
-            to: Some(to),
+            to,
+            background,
             error: None,
             buffer: Vec::with_capacity(settings.bytes as usize + 32),
             bytes: 0,
@@ -174,21 +217,27 @@ impl Recorder {
     }
 
     /// Writes the steps that the house made since the last write, if as many ticks have passed as wanted. It waits as long as
-    /// one write does.
+    /// one write does. If a thread writes, this gives it the steps, and never waits.
     pub fn step<T>(&mut self, house: &mut House<T>) {
         let now = house.now();
-        if now >= self.next {
+        if self.error.is_none() && now >= self.next && self.gives_or_writes(house) {
             self.next = now + self.every;
-            self.write(house, House::take_tape);
         }
     }
 
-    /// Writes the last steps, and the mark of the end, unless a step was lost. The house goes on with no tape.
+    /// Writes the last steps, and the mark of the end, unless a step was lost. The house goes on with no tape. If a thread
+    /// writes, this waits for it.
     ///
     /// # Errors
     ///
     /// What the writer gave, now or before.
     pub fn end<T>(mut self, house: &mut House<T>) -> io::Result<()> {
+        if let Some(mut background) = self.background.take() {
+            self.to = background.end().filter(|_| self.error.is_none());
+            if let Some(error) = background.error() {
+                self.fail(error, house);
+            }
+        }
         self.write(house, House::end_tape);
         match self.error {
             Some(error) => Err(error),
@@ -196,7 +245,7 @@ impl Recorder {
         }
     }
 
-    /// Returns the error of the writer that ended the recording, if one did.
+    /// Returns the error of the writer that ended the recording, if one did. If a thread writes, a later step learns of it.
     #[must_use]
     pub fn error(&self) -> Option<&io::Error> {
         self.error.as_ref()
@@ -205,7 +254,30 @@ impl Recorder {
     /// Returns how many bytes of steps were written.
     #[must_use]
     pub fn bytes(&self) -> u64 {
-        self.bytes
+        let background = self.background.as_ref();
+        background.map_or(self.bytes, Background::bytes)
+    }
+
+    /// Writes what the tape of a house has, or gives it to the thread. Returns false if that has no free block, or failed.
+    fn gives_or_writes<T>(&mut self, house: &mut House<T>) -> bool {
+        let given = match &self.background {
+            Some(background) => background.give(|block| house.move_tape(block)),
+            None => {
+                self.write(house, House::take_tape);
+                Ok(true)
+            }
+        };
+        given.unwrap_or_else(|error| {
+            self.fail(error, house);
+            false
+        })
+    }
+
+    /// Ends the recording.
+    fn fail<T>(&mut self, error: io::Error, house: &mut House<T>) {
+        self.error = Some(error);
+        self.to = None;
+        house.forget_tape();
     }
 
     /// Writes what is taken of the tape of a house in this way, unless an error ended the recording.
@@ -214,7 +286,10 @@ impl Recorder {
         house: &mut House<T>,
         take: fn(&mut House<T>, &mut Vec<u8>) -> Result<(), TapeError>,
     ) {
-        let Some(to) = &mut self.to else { return };
+        let to = match &mut self.to {
+            Some(to) => to,
+            None => return,
+        };
         self.buffer.clear();
         let taken = take(house, &mut self.buffer).map_err(io::Error::from);
         let written = taken
@@ -222,11 +297,7 @@ impl Recorder {
             .and_then(|()| to.flush());
         match written {
             Ok(()) => self.bytes += self.buffer.len() as u64,
-            Err(error) => {
-                self.error = Some(error);
-                self.to = None;
-                house.forget_tape();
-            }
+            Err(error) => self.fail(error, house),
         }
     }
 }

@@ -1,10 +1,13 @@
 //! Houses whose steps are told to a tape, or written to a file: the bytes by hand, in pieces, what is lost, and writers that fail.
+//! The same if a thread writes, also with a writer that takes nothing for a while.
 
 use cbs::realtime::{Clock, Realtime};
 use cbs::record::{Recorder, Settings};
 use cbs::{Bell, Client, Ended, House, Mode, Plan, Poll, Ran, TapeError};
 use std::io::{self, ErrorKind, Write};
+use std::sync::mpsc::{channel, Receiver};
 use std::sync::{Arc, Mutex};
+use std::thread;
 use std::time::Duration;
 
 /// A house of a soft and a throttled server with 2 ticks in every 5 each.
@@ -128,7 +131,7 @@ fn settings() -> Settings {
         names: vec!["control".into()],
         tick: Some(Duration::from_nanos(1500)),
         bytes: 100,
-        every: 0,
+        ..Settings::default()
     }
 }
 
@@ -318,5 +321,185 @@ fn a_loop_in_real_time_writes_its_steps() {
     );
     // A job of three units, and the first of them; the client's end, which the next question takes; a unit; three ticks until the
     // deadline; the third unit; the mark.
+    assert_eq!(bytes[end + 1..], [0x40, 3, 0xC0, 3, 0, 0xC0, 2, 3, 0xC0, 4]);
+}
+
+/// Does 300 rounds of a job, its two units and some ticks, and steps after each. Returns what comes of the end.
+fn records(to: impl Write + Send + 'static, settings: &Settings) -> io::Result<()> {
+    let (mut house, mut clients) = open();
+    let mut recorder = Recorder::new(&mut house, to, settings)?;
+    for round in 0..300 {
+        submit(&mut house, &mut clients[0], 0, 2);
+        runs(&mut house, 0);
+        house.charge(0, round % 3).unwrap();
+        runs(&mut house, 0);
+        house.advance(round % 7).unwrap();
+        recorder.step(&mut house);
+    }
+    let end = recorder.end(&mut house);
+    assert_eq!(house.tape_lost(), Err(TapeError::NoTape));
+    end
+}
+
+/// Settings with a tape that has room for all.
+fn in_blocks(blocks: usize, every: u64) -> Settings {
+    Settings {
+        bytes: 10_000,
+        blocks,
+        every,
+        ..settings()
+    }
+}
+
+#[test]
+fn a_thread_writes_what_the_serving_thread_writes() {
+    let wanted = Kept::with_room(10_000);
+    records(wanted.clone(), &in_blocks(0, 0)).unwrap();
+    assert_eq!(wanted.bytes().last(), Some(&4));
+    for (blocks, every) in [(1, 0), (4, 0), (2, 50), (3, 1000)] {
+        let kept = Kept::with_room(10_000);
+        records(kept.clone(), &in_blocks(blocks, every)).unwrap();
+        assert_eq!(kept.bytes(), wanted.bytes(), "{blocks} {every}");
+    }
+}
+
+/// A writer that waits, once the head is written, until the test has dropped the sender.
+struct Stuck(Kept, Receiver<()>);
+
+impl Write for Stuck {
+    fn write(&mut self, more: &[u8]) -> io::Result<usize> {
+        if !self.0.bytes().is_empty() {
+            let _ = self.1.recv(); // the sender is gone
+        }
+        self.0.write(more)
+    }
+
+    fn flush(&mut self) -> io::Result<()> {
+        Ok(())
+    }
+}
+
+#[test]
+fn a_step_never_waits_for_the_writer() {
+    let (mut house, mut clients) = open();
+    let kept = Kept::with_room(10_000);
+    let (sender, receiver) = channel::<()>();
+    let settings = Settings {
+        blocks: 3,
+        ..settings()
+    };
+    let to = Stuck(kept.clone(), receiver);
+    let mut recorder = Recorder::new(&mut house, to, &settings).unwrap();
+    let mut made = 0;
+    while house.tape_lost() == Ok(false) {
+        made += 1;
+        house.advance(made % 250).unwrap();
+        recorder.step(&mut house);
+    }
+    submit(&mut house, &mut clients[0], 0, 3); // the house goes on
+    runs(&mut house, 0);
+    recorder.step(&mut house);
+    assert!(recorder.error().is_none() && recorder.bytes() == 0);
+    drop(sender);
+    recorder.end(&mut house).unwrap();
+    // What was lost is after the last step in the file, and there is no mark.
+    let steps: Vec<u8> = (1..made).flat_map(|n| [2, n as u8]).collect();
+    assert_eq!(kept.bytes()[HEAD.len()..], steps);
+}
+
+#[test]
+fn an_error_in_the_thread_ends_the_recording_alone() {
+    let (mut house, mut clients) = open();
+    let kept = Kept::with_room(HEAD.len() + 2);
+    let settings = Settings {
+        blocks: 2,
+        ..settings()
+    };
+    let mut recorder = Recorder::new(&mut house, kept.clone(), &settings).unwrap();
+    submit(&mut house, &mut clients[0], 0, 3);
+    recorder.step(&mut house);
+    while recorder.bytes() < 2 {
+        thread::yield_now();
+    }
+    runs(&mut house, 0);
+    while recorder.error().is_none() {
+        recorder.step(&mut house);
+        thread::yield_now();
+    }
+    let error = recorder.error().unwrap().raw_os_error();
+    assert_eq!(error, Some(FULL));
+    assert_eq!(house.tape_lost(), Err(TapeError::NoTape));
+    runs(&mut house, 0); // the house goes on
+    recorder.step(&mut house);
+    assert_eq!(recorder.bytes(), 2);
+    let error = recorder.end(&mut house).unwrap_err();
+    assert_eq!(error.raw_os_error(), Some(FULL));
+    assert_eq!(kept.bytes()[HEAD.len()..], [0x40, 3]);
+}
+
+#[test]
+fn an_error_in_the_thread_is_told_at_the_end() {
+    for room in [0, 1, 100, 1000] {
+        let kept = Kept::with_room(HEAD.len() + room);
+        let error = records(kept.clone(), &in_blocks(2, 0)).unwrap_err();
+        assert_eq!(error.raw_os_error(), Some(FULL));
+        let wanted = Kept::with_room(10_000);
+        records(wanted.clone(), &in_blocks(0, 0)).unwrap();
+        assert_eq!(kept.bytes(), wanted.bytes()[..HEAD.len() + room]);
+    }
+}
+
+/// A writer that panics, once the head is written.
+struct Panics(bool);
+
+impl Write for Panics {
+    fn write(&mut self, more: &[u8]) -> io::Result<usize> {
+        assert!(!self.0, "the writer of a test");
+        self.0 = true;
+        Ok(more.len())
+    }
+
+    fn flush(&mut self) -> io::Result<()> {
+        Ok(())
+    }
+}
+
+#[test]
+fn a_writer_that_panics_in_the_thread_ends_the_recording_alone() {
+    let error = records(Panics(false), &in_blocks(2, 0)).unwrap_err();
+    assert_eq!(error.to_string(), "the writer panicked");
+}
+
+#[test]
+fn a_recorder_that_is_dropped_has_written_what_it_was_given() {
+    let (mut house, mut clients) = open();
+    let kept = Kept::with_room(1000);
+    let settings = Settings {
+        blocks: 2,
+        ..settings()
+    };
+    let mut recorder = Recorder::new(&mut house, kept.clone(), &settings).unwrap();
+    submit(&mut house, &mut clients[0], 0, 3);
+    recorder.step(&mut house);
+    runs(&mut house, 0);
+    drop(recorder);
+    assert_eq!(kept.bytes()[HEAD.len()..], [0x40, 3]);
+}
+
+#[test]
+fn a_loop_in_real_time_gives_its_steps() {
+    let mut plan = Plan::new();
+    plan.admit(2, 5, Mode::Throttled).unwrap();
+    let (mut house, mut clients) = plan.open(4, 4).unwrap();
+    clients[0].send(7, 3).unwrap();
+    drop(clients);
+    let kept = Kept::with_room(1000);
+    let clock = Counted(Duration::ZERO);
+    let mut realtime = Realtime::with_clock(&mut house, Duration::from_millis(1), clock);
+    realtime.record(kept.clone(), &in_blocks(4, 0)).unwrap();
+    assert_eq!(realtime.run(|_| {}).unwrap(), Ended::Closed);
+    realtime.end_record().unwrap();
+    let bytes = kept.bytes();
+    let end = bytes.iter().position(|byte| *byte == 0).unwrap();
     assert_eq!(bytes[end + 1..], [0x40, 3, 0xC0, 3, 0, 0xC0, 2, 3, 0xC0, 4]);
 }

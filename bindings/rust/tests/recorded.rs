@@ -158,9 +158,9 @@ fn number_in(name: &str) -> u64 {
 
 #[test]
 fn random_houses_are_recorded() {
-    let Ok(folder) = std::env::var("CBS_RECORDED") else {
-        (0..10).for_each(|number| drop(recorded(number, io::sink())));
-        return;
+    let folder = match std::env::var("CBS_RECORDED") {
+        Ok(folder) => folder,
+        Err(_) => return (0..10).for_each(|number| drop(recorded(number, io::sink()))),
     };
     let (first, houses) = (number_in("CBS_SEED"), number_in("CBS_HOUSES"));
     for number in first..first + houses {
