@@ -350,7 +350,8 @@ static void steps() {
     std::optional<cbs::Ended> ended;
     while (!(ended = realtime.step(work))) {
         taken += realtime.taken();
-        CHECK(house.promised(0).value_or(0) <= house.now() + 12); // however late a step is
+        // However late a step is: a tick that is charged costs the server a period of 4.
+        CHECK(house.promised(0).value_or(0) <= house.now() + 12 + 4 * realtime.counts().charged);
     }
     CHECK(ended == cbs::Ended::Closed && told == 7 && taken == 3 && State::alive == 0);
     CHECK(realtime.counts().units == 2 && realtime.counts().most_behind >= realtime.counts().behind);
