@@ -116,15 +116,17 @@ def test_a_job_is_awaited():
     assert asyncio.run(main()) == [3] * 5
 
 
-def child(code, interrupt=None):
-    """Runs code in an interpreter of its own, and returns what it printed, and its status."""
+def child(code, interrupted=False):
+    """Runs code in an interpreter of its own, and returns what it printed, and its status. It may be interrupted a little
+    after it printed a first line, which is left out."""
     env = {**os.environ, "PYTHONPATH": os.pathsep.join(path for path in sys.path if path)}
     words = [sys.executable, "-c", "import cbs, os, sys, threading, time\n" + code]
     with subprocess.Popen(
         words, env=env, stdout=subprocess.PIPE, stderr=subprocess.STDOUT, text=True
     ) as process:
-        if interrupt is not None:
-            time.sleep(interrupt)
+        if interrupted:
+            process.stdout.readline()
+            time.sleep(0.3)
             process.send_signal(signal.SIGINT)
         out = process.communicate(timeout=20)[0]
     return out.strip(), process.returncode
@@ -151,8 +153,8 @@ def test_an_interpreter_ends_with_a_house_open(code):
 @pytest.mark.parametrize("idle", [False, True])
 def test_an_interrupt_ends_the_serving(idle):
     busy = "" if idle else "h['a'].submit(lambda: 1, units=10**5)\n"
-    code = HOUSE + busy + "try: h.serve(tick)\nexcept KeyboardInterrupt: print('over', h.clock >= 0)"
-    assert child(code, interrupt=1.0) == ("over True", 0)
+    serves = "print('ready', flush=True)\ntry: h.serve(tick)\nexcept KeyboardInterrupt: print('over')"
+    assert child(HOUSE + busy + serves, interrupted=True) == ("over", 0)
 
 
 def test_a_child_has_no_house_of_its_parent():
