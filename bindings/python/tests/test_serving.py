@@ -102,6 +102,46 @@ def test_senders_wait_for_room():
         assert sum(future.result(20) for future in futures) == 4 * 800
 
 
+def test_an_end_waits_for_room_and_nobody_for_it():
+    with cbs.House({"a": cbs.Server(1, 5)}, ring=2) as house:
+        futures = [house["a"].submit(int), house["a"].submit(int)]
+        house.end()
+        house.end()
+        with pytest.raises(cbs.Ended):
+            house["a"].submit(int)
+        house.run()
+        assert [future.result(0) for future in futures] == [0, 0]
+        assert house.view("a").closed
+
+
+def test_a_block_ends_if_its_thread_ended_with_a_full_ring():
+    with cbs.House({"a": cbs.Server(1, 5)}, ring=1) as house:
+        with pytest.raises(SystemExit):
+            with house.serving(TICK):
+                ends = house["a"].submit(sys.exit, 3)
+                assert isinstance(ends.exception(5), SystemExit)
+                house["a"].submit(int, timeout=5)
+
+
+def test_who_waits_for_room_is_told_that_the_house_is_closed():
+    house = cbs.House({"a": cbs.Server(1, 5)}, ring=1)
+    house["a"].submit(int)
+    told = []
+
+    def waits():
+        try:
+            house["a"].submit(int, timeout=None)
+        except cbs.HouseClosed as error:
+            told.append(error)
+
+    thread = threading.Thread(target=waits)
+    thread.start()
+    time.sleep(0.05)
+    house.close()
+    thread.join(5)
+    assert not thread.is_alive() and told
+
+
 def test_a_job_is_awaited():
     async def main():
         async with cbs.House(TWO).serving(TICK) as house:

@@ -22,6 +22,7 @@ class Client:
     def __init__(self, house: "House", name: str, at: int) -> None:
         """`at` is where the handle of the client lies."""
         self.name = name
+        self.has_ended = False
         self._house, self._at = house, at
         self._seq = c.c_uint64()
 
@@ -83,21 +84,22 @@ class Client:
         self._until(lambda: house.send(self, job), timeout)
         return job.future
 
-    def end(self, timeout: Optional[float] = None) -> None:
-        """Sends the end: the server closes once all jobs before it were taken. A second end is none.
+    def end(self) -> None:
+        """Sends the end: the server closes once all jobs before it were taken. A second end is none. It never waits: if the
+        ring is full, the house sends it once there is room."""
+        self.has_ended = True
+        if not self.send_end():
+            self._house.ends.add(self)
 
-        If the ring is full, waits for room as `submit` does."""
-
-        def sent() -> bool:
-            status = _lib.lib.cbs_end(self._handle())
-            if status == _lib.SEND_RING_FULL:
-                return False
-            if status != _lib.SEND_ENDED:
-                _lib.check(status)
-            self._house.bell.ring()
-            return True
-
-        self._until(sent, timeout)
+    def send_end(self) -> bool:
+        """Sends the end to the house. Returns whether there was room for it in the ring."""
+        status = _lib.lib.cbs_end(self._handle())
+        if status == _lib.SEND_RING_FULL:
+            return False
+        if status != _lib.SEND_ENDED:
+            _lib.check(status)
+        self._house.bell.ring()
+        return True
 
     @property
     def waiting(self) -> int:
@@ -121,6 +123,8 @@ class Client:
         return self._at
 
     def send_token(self, token: int, job: Job) -> int:
-        """Sends a token, and returns the status."""
+        """Sends a token, and returns the status. After an end that waits for room nothing more is sent."""
+        if self in self._house.ends:
+            return _lib.SEND_ENDED
         status: int = _lib.lib.cbs_send(self._handle(), token, job.units, c.addressof(self._seq))
         return status

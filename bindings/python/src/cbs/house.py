@@ -9,7 +9,7 @@ import os
 import threading
 import weakref
 from datetime import timedelta
-from typing import Any, Dict, Iterator, Mapping, Optional, Union
+from typing import Any, Dict, Iterator, Mapping, Optional, Set, Union
 
 from . import _lib
 from .bell import Bell, Room
@@ -65,6 +65,7 @@ class House:
         self._served = threading.Lock()
         self._server_thread = 0
         self.bell, self.room = Bell(), Room()
+        self.ends: Set[Client] = set()
         self.is_stopping = False
         self.pacer = _lib.Pacer()
         self.pace: Optional[timedelta] = None
@@ -87,7 +88,7 @@ class House:
         return len(self._names)
 
     def end(self) -> None:
-        """Sends the end of each client: the house is over once all that was sent is done."""
+        """Sends the end of each client: the house is over once all that was sent is done. It never waits."""
         for client in self._clients.values():
             client.end()
 
@@ -103,6 +104,13 @@ class House:
             _lib.check(status)
         self.bell.ring()
         return True
+
+    def note_taken(self) -> None:
+        """Notes that messages were taken from rings: sends the ends that wait for room, and wakes who waits for it."""
+        for client in list(self.ends):
+            if client.send_end():
+                self.ends.discard(client)
+        self.room.tell()
 
     # -- what it shows --
 
@@ -265,6 +273,7 @@ class House:
             self.recorder.close()
         self.is_closed = True
         self._finalizer()
+        self.room.tell()  # who waits there is told that the house is closed
 
     def __enter__(self) -> "House":
         return self

@@ -56,7 +56,7 @@ def turned(house: "House") -> Iterator[Unit]:
             _lib.check(status)
         took = words[_lib.TURN_TOOK]
         if took:
-            house.room.tell()
+            house.note_taken()
         kind = words[_lib.TURN_UNIT] & 0xFFFFFFFF
         if kind >= _lib.RUN_UNIT:
             yield _told(house, words, _lib.TURN_UNIT)
@@ -81,7 +81,7 @@ def paced(house: "House", tick: timedelta) -> Iterator[Unit]:
                 _lib.check(status)
             first = words[0]
             if first >> 32:
-                house.room.tell()
+                house.note_taken()
             kind = first & 0xFFFFFFFF
             if kind == _lib.UNIT:
                 yield _told(house, words, _lib.NEXT_UNIT)
