@@ -1214,7 +1214,7 @@ struct RecordSettings {
     // has. A server with none is called server-I, by its number.
     std::vector<std::string> names;
     std::chrono::nanoseconds tick{0}; // how long a tick is, at most a second; 0: not told
-    std::uint32_t bytes = 65536;      // so many the steps between two writes may take
+    std::uint32_t bytes = 65536;      // so many the steps between two writes may take, to 16777184
     std::uint64_t every = 0;          // so many ticks pass at least between two writes
     // With 0 the serving thread writes, and waits for the file. Else a thread writes, from so many
     // blocks of `bytes` bytes, and the serving thread never waits: cbs_record_thread.h says how. The
@@ -1228,8 +1228,9 @@ struct RecordSettings {
 class Recorder {
 public:
     // Opens the file, which is written anew, and has the house tell its steps.
-    // Throws std::system_error with the error number: EINVAL for a wrong name or tick, and if the
-    // house is not open or made a step before; ENOMEM, or that of the file or of the thread.
+    // Throws std::system_error with the error number: EINVAL for a wrong name or tick or too many
+    // bytes, and if the house is not open or made a step before; ENOMEM, or that of the file or of
+    // the thread.
     Recorder(House &house, const std::string &path, const RecordSettings &settings = {})
         : served(house) {
         const std::shared_ptr<detail::Shared> shared = house.shared;

@@ -12,9 +12,10 @@
  * A loop of cbs_realtime.h takes the steps itself, if its field `recorder` is set. With cbs_record_thread.h a thread writes the
  * file, and the serving thread never waits for it.
  *
- * The file is a record with a tape: a text that says what the servers are, a zero byte, and then a byte or two for each step. What
- * cbs_record_step wrote is in the file also if the process is killed then; what it did not write is lost with the process. An
- * error of the file ends the recording, and never the house. It wants C99 or C++17. */
+ * The file is a record with a tape: a text that says what the servers are, and then a byte or two for each step, in blocks with a
+ * sum each. So a byte that is changed later is told. What cbs_record_step wrote is in the file also if the process is killed then;
+ * what it did not write is lost with the process. An error of the file ends the recording, and never the house. It wants C99 or
+ * C++17. */
 #ifndef CBS_RECORD_H
 #define CBS_RECORD_H
 
@@ -25,13 +26,25 @@
 #include <stdlib.h>
 #include <string.h>
 
+/* Of a block, beside its n bytes of steps: their length in 4 bytes before them, and a sum in 4 bytes after them. */
+#define CBS_RECORD_AROUND 8
+/* How many bytes of steps a block has at most. */
+#define CBS_RECORD_MOST 0xFFFFFFU
+
+/* The CRC-32 of what a file has, but for the sums in it. */
+struct cbs_record_sum {
+    uint32_t shares[256]; /* what each byte brings into it */
+    uint32_t value;
+};
+
 /* A file that the steps of a house go to. The fields are the header's, but for `every`, which may be set, and `error`, `lost` and
  * `bytes`, which may be read. */
 struct cbs_recorder {
     uint64_t every; /* at least so many ticks pass between two writes of cbs_record_step; 0, as it is opened: it writes each time */
     FILE *file;      /* NULL: nothing is recorded any more */
-    uint8_t *buffer; /* as many bytes as the tape has */
-    size_t size;
+    uint8_t *buffer; /* a block: as many bytes as the tape has, and those around them */
+    size_t size;     /* of the tape */
+    struct cbs_record_sum sum;
     int error;      /* the error number that ended the recording; 0: none did */
     bool lost;      /* after the close: whether a step was lost, so that the file has only those before it */
     uint64_t bytes; /* how many bytes of steps are in the file */
@@ -41,6 +54,45 @@ struct cbs_recorder {
     bool (*give)(struct cbs_recorder *recorder, struct cbs_handle *house);
     void (*join)(struct cbs_recorder *recorder, struct cbs_handle *house);
 };
+
+/* Begins the sum of no byte, as section 8 of RFC 1952 has it. */
+static inline void cbs_record_sum_begin(struct cbs_record_sum *sum) {
+    for (uint32_t byte = 0; byte < 256; byte++) {
+        uint32_t share = byte;
+        for (int bit = 0; bit < 8; bit++) {
+            share = (share & 1) != 0 ? 0xEDB88320U ^ (share >> 1) : share >> 1;
+        }
+        sum->shares[byte] = share;
+    }
+    sum->value = 0;
+}
+
+static inline void cbs_record_sum_add(struct cbs_record_sum *sum, const void *bytes, size_t n) {
+    const uint8_t *added = CBS_CAST(const uint8_t *, bytes);
+    uint32_t value = ~sum->value;
+    for (size_t i = 0; i < n; i++) {
+        value = sum->shares[(value ^ added[i]) & 255] ^ (value >> 8);
+    }
+    sum->value = ~value;
+}
+
+/* Writes a block, whose n bytes of steps stand 4 bytes from its begin. Returns 0, or an error number. The length has 3 bytes, the
+ * lowest first, and one more, so that the four come to 255 by exclusive or. */
+static inline int cbs_record_put(FILE *file, struct cbs_record_sum *sum, uint8_t *block, size_t n) {
+    for (size_t i = 0; i < 3; i++) {
+        block[i] = CBS_CAST(uint8_t, (n >> (8 * i)) & 255);
+    }
+    block[3] = CBS_CAST(uint8_t, block[0] ^ block[1] ^ block[2] ^ 255);
+    cbs_record_sum_add(sum, block, 4 + n);
+    for (size_t i = 0; i < 4; i++) {
+        block[4 + n + i] = CBS_CAST(uint8_t, (sum->value >> (8 * i)) & 255);
+    }
+    errno = 0;
+    if (fwrite(block, 1, n + CBS_RECORD_AROUND, file) == n + CBS_RECORD_AROUND && fflush(file) == 0) {
+        return 0;
+    }
+    return errno != 0 ? errno : EIO;
+}
 
 /* Writes the name of server i: names[i], or server-I if there is none. */
 static inline void cbs_record_name(char *out, size_t n, const char *const *names, size_t i) {
@@ -71,25 +123,37 @@ static inline bool cbs_record_are_names(const char *const *names, size_t n) {
     return true;
 }
 
-/* Writes the text of a record, and the zero byte after it. Returns whether all of it was written. */
-static inline bool cbs_record_head(FILE *file, const struct cbs_server *servers, size_t n, size_t backlog, const char *const *names,
-                                   uint64_t tick) {
-    fprintf(file, "record = 1\n");
+/* Writes some of the text of a record. An error is told by the block after it. */
+static inline void cbs_record_text(FILE *file, struct cbs_record_sum *sum, const char *text) {
+    cbs_record_sum_add(sum, text, strlen(text));
+    fputs(text, file);
+}
+
+/* Writes the text of a record, the byte that ends it, and a block with no steps, so that the text has a sum. Returns 0, or an error
+ * number. */
+static inline int cbs_record_head(FILE *file, struct cbs_record_sum *sum, const struct cbs_server *servers, size_t n, size_t backlog,
+                                  const char *const *names, uint64_t tick) {
+    char line[160];
+    uint8_t none[CBS_RECORD_AROUND];
+    cbs_record_text(file, sum, "record = 1\n");
     if (tick == 1000000000U) {
-        fprintf(file, "tick = \"1 s\"\n");
+        cbs_record_text(file, sum, "tick = \"1 s\"\n");
     } else if (tick > 0) {
-        fprintf(file, "tick = \"%" PRIu64 " ns\"\n", tick);
+        snprintf(line, sizeof line, "tick = \"%" PRIu64 " ns\"\n", tick);
+        cbs_record_text(file, sum, line);
     }
-    fprintf(file, "bound = [1, 1]\nbacklog = %" PRIu64 "\nserver = [\n", CBS_CAST(uint64_t, backlog));
+    snprintf(line, sizeof line, "bound = [1, 1]\nbacklog = %" PRIu64 "\nserver = [\n", CBS_CAST(uint64_t, backlog));
+    cbs_record_text(file, sum, line);
     for (size_t i = 0; i < n; i++) {
         const char *mode = servers[i].mode == CBS_THROTTLED ? "throttled" : "soft";
         char name[34];
         cbs_record_name(name, sizeof name, names, i);
-        fprintf(file, "  { name = \"%s\", mode = \"%s\", budget = %" PRIu64 ", period = %" PRIu64 " },\n", name, mode,
-                servers[i].budget, servers[i].period);
+        snprintf(line, sizeof line, "  { name = \"%s\", mode = \"%s\", budget = %" PRIu64 ", period = %" PRIu64 " },\n", name, mode,
+                 servers[i].budget, servers[i].period);
+        cbs_record_text(file, sum, line);
     }
-    fprintf(file, "]\n");
-    return fputc(0, file) == 0 && fflush(file) == 0;
+    cbs_record_text(file, sum, "]\n\3");
+    return cbs_record_put(file, sum, none, 0);
 }
 
 /* Whether the house has n servers, and made no step yet. */
@@ -123,20 +187,20 @@ static inline int cbs_record_fail(struct cbs_recorder *recorder, struct cbs_hand
 /* Opens a file, which is written anew, and has the house tell its steps from now on: call this before its first step. The servers and
  * the backlog are those with which the house was opened. names[i] is the name of server i, of 1 to 32 letters, digits,
  * - and _, which no other server has; without one (NULL, also for all of them) the server is called server-I. A tick is so many
- * nanoseconds long, at most 10^9; 0: that is not told. The steps between two calls of cbs_record_step may take so many bytes: a
- * step takes 20 at most, and mostly 1 or 2.
+ * nanoseconds long, at most 10^9; 0: that is not told. The steps between two calls of cbs_record_step may take so many bytes, at
+ * most 16777184: a step takes 20 at most, and mostly 1 or 2.
  *
- * Returns 0, or an error number: EINVAL for a wrong name or tick, and if the house is not open, made a step before, or has not so
+ * Returns 0, or an error number: EINVAL for a wrong name or tick or too many bytes, and if the house is not open, made a step before, or has not so
  * many servers; ENOMEM, or what stdio gave. Then nothing is recorded, and the other calls do nothing. */
 static inline int cbs_record_open(struct cbs_recorder *recorder, struct cbs_handle *house, const char *path,
                                   const struct cbs_server *servers, size_t n, size_t backlog, const char *const *names,
                                   uint64_t tick, uint32_t bytes) {
     memset(recorder, 0, sizeof *recorder);
-    if (tick > 1000000000U || !cbs_record_are_names(names, n) || !cbs_record_is_new(house, n)) {
+    if (tick > 1000000000U || bytes > CBS_RECORD_MOST - 31 || !cbs_record_are_names(names, n) || !cbs_record_is_new(house, n)) {
         return recorder->error = EINVAL;
     }
     recorder->size = CBS_CAST(size_t, bytes) + 31;
-    recorder->buffer = CBS_CAST(uint8_t *, malloc(recorder->size));
+    recorder->buffer = CBS_CAST(uint8_t *, malloc(recorder->size + CBS_RECORD_AROUND));
     if (recorder->buffer == NULL) {
         return cbs_record_fail(recorder, house, ENOMEM);
     }
@@ -151,28 +215,18 @@ static inline int cbs_record_open(struct cbs_recorder *recorder, struct cbs_hand
         cbs_tape_close(house);
         return cbs_record_fail(recorder, house, error);
     }
-    if (!cbs_record_head(recorder->file, servers, n, backlog, names, tick)) {
-        return cbs_record_fail(recorder, house, errno);
-    }
-    return 0;
-}
-
-/* Writes n bytes to the file. Returns 0, or an error number. */
-static inline int cbs_record_put(FILE *file, const uint8_t *bytes, size_t n) {
-    errno = 0;
-    if (fwrite(bytes, 1, n, file) == n && fflush(file) == 0) {
-        return 0;
-    }
-    return errno != 0 ? errno : EIO;
+    cbs_record_sum_begin(&recorder->sum);
+    int error = cbs_record_head(recorder->file, &recorder->sum, servers, n, backlog, names, tick);
+    return error == 0 ? 0 : cbs_record_fail(recorder, house, error);
 }
 
 /* Writes the steps that the house made since the last write. */
 static inline void cbs_record_write(struct cbs_recorder *recorder, struct cbs_handle *house) {
     size_t length = 0;
-    if (recorder->file == NULL || cbs_tape_take(house, recorder->buffer, recorder->size, &length) != CBS_OK || length == 0) {
+    if (recorder->file == NULL || cbs_tape_take(house, recorder->buffer + 4, recorder->size, &length) != CBS_OK || length == 0) {
         return;
     }
-    int error = cbs_record_put(recorder->file, recorder->buffer, length);
+    int error = cbs_record_put(recorder->file, &recorder->sum, recorder->buffer, length);
     if (error != 0) {
         cbs_record_fail(recorder, house, error);
         return;
@@ -206,8 +260,11 @@ static inline int cbs_record_close(struct cbs_recorder *recorder, struct cbs_han
         return recorder->error;
     }
     FILE *file = recorder->file;
+    uint8_t mark[1 + CBS_RECORD_AROUND];
+    mark[4] = CBS_TAPE_END;
     errno = 0;
-    bool written = cbs_tape_lost(house, &recorder->lost) == CBS_OK && (recorder->lost || fputc(CBS_TAPE_END, file) == CBS_TAPE_END);
+    bool written = cbs_tape_lost(house, &recorder->lost) == CBS_OK &&
+                   (recorder->lost || cbs_record_put(file, &recorder->sum, mark, 1) == 0);
     written = fclose(file) == 0 && written;
     int error = written ? 0 : errno;
     cbs_tape_close(house);

@@ -35,9 +35,10 @@
 struct cbs_record_thread {
     pthread_t id;
     FILE *file;
-    uint8_t *memory; /* the blocks, one after another */
-    size_t *lengths; /* how many bytes each block has; of one that was given none ends the thread */
-    size_t size;     /* of a block */
+    struct cbs_record_sum sum; /* of the file; the thread's until it has ended */
+    uint8_t *memory;           /* the blocks, one after another */
+    size_t *lengths;           /* how many bytes of steps each block has; of one that was given none ends the thread */
+    size_t size;               /* of a block, with what stands around its steps */
     uint32_t blocks; /* how many there are; they are given and written in turn */
     uint32_t next;   /* the one that is given next, by the serving thread */
     sem_t given;     /* counts the blocks that the thread was given and has not taken */
@@ -56,7 +57,7 @@ static inline void cbs_record_thread_write(struct cbs_record_thread *self, size_
     if (self->error != 0) {
         return;
     }
-    int error = cbs_record_put(self->file, self->memory + block * self->size, self->lengths[block]);
+    int error = cbs_record_put(self->file, &self->sum, self->memory + block * self->size, self->lengths[block]);
     if (error == 0) {
         __atomic_store_n(&self->bytes, self->bytes + self->lengths[block], __ATOMIC_RELEASE);
     } else {
@@ -98,7 +99,8 @@ static inline bool cbs_record_thread_give(struct cbs_recorder *recorder, struct 
         return false;
     }
     size_t *length = &self->lengths[self->next];
-    if (cbs_tape_take(house, self->memory + self->next * self->size, self->size, length) == CBS_OK && *length > 0) {
+    uint8_t *steps = self->memory + self->next * self->size + 4;
+    if (cbs_tape_take(house, steps, self->size - CBS_RECORD_AROUND, length) == CBS_OK && *length > 0) {
         self->next = (self->next + 1) % self->blocks;
         sem_post(&self->given);
     } else {
@@ -121,6 +123,7 @@ static inline void cbs_record_thread_join(struct cbs_recorder *recorder, struct 
     self->lengths[self->next] = 0;
     sem_post(&self->given);
     pthread_join(self->id, NULL);
+    recorder->sum = self->sum;
     cbs_record_thread_look(self, recorder, house);
     cbs_record_thread_free(self);
     recorder->thread = NULL;
@@ -162,8 +165,9 @@ static inline int cbs_record_thread_open(struct cbs_record_thread *thread, struc
     }
     memset(thread, 0, sizeof *thread);
     thread->file = recorder->file;
+    thread->sum = recorder->sum;
     thread->bytes = recorder->bytes;
-    thread->size = recorder->size;
+    thread->size = recorder->size + CBS_RECORD_AROUND;
     thread->blocks = blocks;
     sem_init(&thread->given, 0, 0);
     sem_init(&thread->free, 0, blocks);

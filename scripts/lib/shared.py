@@ -5,6 +5,7 @@
 """
 import os
 import subprocess
+import zlib
 
 ROOT = os.path.dirname(os.path.dirname(os.path.dirname(os.path.realpath(__file__))))
 CBSRUN = os.path.join(ROOT, "crates", "cbsrun", "out", "cbsrun")
@@ -59,6 +60,31 @@ def submit(server, kind, units):
 
 
 RUN = '  { op = "run" },\n'
+
+
+def taped_blocks(content):
+    """The text of a record with a tape, and the bytes of each of its blocks (docs/FORMATS.md#blocks). None for a block that is wrong."""
+    begin = content.index(3) + 1
+    blocks, total = [], zlib.crc32(content[:begin])
+    while begin < len(content):
+        low, middle, high, check = content[begin : begin + 4]
+        end = begin + 4 + low + 256 * middle + 65536 * high
+        total = zlib.crc32(content[begin:end], total)
+        is_right = low ^ middle ^ high ^ check == 255 and content[end : end + 4] == total.to_bytes(4, "little")
+        blocks.append(content[begin + 4 : end] if is_right else None)
+        begin = end + 4
+    return content[: content.index(3)], blocks
+
+
+def is_told_if_turned(content, place, bit, whole):
+    """Whether the program, if a bit of a record is turned, tells a fault, or writes the lines of the whole record, or a beginning of
+    them and that the record is cut."""
+    turned = bytearray(content)
+    turned[place] ^= 1 << bit
+    status, out, error = run_within(60, [CBSRUN, "replay", "-"], input=bytes(turned))
+    if status == 0:
+        return out == whole or whole.startswith(out) and b" is cut after " in error
+    return status == 3 and not out
 
 
 def documents(folder):

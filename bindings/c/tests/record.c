@@ -4,6 +4,7 @@
 #define _POSIX_C_SOURCE 200809L
 #endif
 #include "cbs_realtime.h"
+#include "blocks.h"
 #include "check.h"
 #include <signal.h>
 #include <sys/resource.h>
@@ -13,18 +14,25 @@ static const struct cbs_server servers[2] = {{2, 5, CBS_SOFT}, {2, 5, CBS_THROTT
 static const char *const names[2] = {"control", NULL};
 static const char head[] = "record = 1\ntick = \"1500 ns\"\nbound = [1, 1]\nbacklog = 4\nserver = [\n"
                            "  { name = \"control\", mode = \"soft\", budget = 2, period = 5 },\n"
-                           "  { name = \"server-1\", mode = \"throttled\", budget = 2, period = 5 },\n]\n";
+                           "  { name = \"server-1\", mode = \"throttled\", budget = 2, period = 5 },\n]\n\3";
+#define HEAD (sizeof head - 1)
 static char path[64];
 
-/* Checks that the file has the head, with its zero byte, and then these bytes. */
-static void holds(const uint8_t *wanted, size_t n) {
-    char bytes[1000];
+/* Reads the file, which has to have the head. Returns how many bytes it has. */
+static size_t reads(uint8_t *bytes, size_t n) {
     FILE *file = fopen(path, "rb");
     CHECK(file != NULL);
-    size_t length = fread(bytes, 1, sizeof bytes, file);
+    size_t length = fread(bytes, 1, n, file);
     fclose(file);
-    CHECK(length == sizeof head + n && memcmp(bytes, head, sizeof head) == 0);
-    CHECK(memcmp(bytes + sizeof head, wanted, n) == 0);
+    CHECK(length >= HEAD && memcmp(bytes, head, HEAD) == 0);
+    return length;
+}
+
+/* Checks that the blocks of the file have these bytes of steps. */
+static void holds(const uint8_t *wanted, size_t n) {
+    uint8_t bytes[1000], steps[1000];
+    size_t length = reads(bytes, sizeof bytes);
+    CHECK(steps_in(bytes, length, HEAD, steps) == n && memcmp(steps, wanted, n) == 0);
 }
 
 static int opens(struct cbs_recorder *recorder, struct setup *setup, uint32_t bytes) {
@@ -36,8 +44,13 @@ static bool has_no_tape(struct setup *setup) {
     return cbs_tape_lost(&setup->house, &lost) == CBS_CALL_NO_TAPE;
 }
 
+/* The sums are those of Python's zlib.crc32. */
 static void writes_each_step(void) {
     static const uint8_t steps[] = {0x40, 0x03, 0xC0, 0x02, 0xFD, 0x2C, 0x01, 0x04};
+    static const uint8_t blocks[] = {0x00, 0x00, 0x00, 0xFF, 0xCC, 0x7E, 0x18, 0xC6, 0x03, 0x00, 0x00, 0xFC, 0x40, 0x03,
+                                     0xC0, 0x98, 0x84, 0xC4, 0x99, 0x04, 0x00, 0x00, 0xFB, 0x02, 0xFD, 0x2C, 0x01, 0x89,
+                                     0xBB, 0xFC, 0x51, 0x01, 0x00, 0x00, 0xFE, 0x04, 0x5E, 0x2B, 0xEB, 0x1F};
+    uint8_t bytes[1000];
     struct setup setup;
     struct cbs_recorder recorder;
     set_up(&setup, servers, 2, 4, 4);
@@ -51,6 +64,7 @@ static void writes_each_step(void) {
     CHECK(cbs_advance(&setup.house, 300) == CBS_OK && recorder.bytes == 3);
     CHECK(cbs_record_close(&recorder, &setup.house) == 0 && !recorder.lost);
     holds(steps, sizeof steps);
+    CHECK(reads(bytes, sizeof bytes) == HEAD + sizeof blocks && memcmp(bytes + HEAD, blocks, sizeof blocks) == 0);
     CHECK(has_no_tape(&setup) && cbs_record_close(&recorder, &setup.house) == 0);
     tear_down(&setup);
 }
@@ -102,6 +116,7 @@ static void refuses_what_no_record_may_have(void) {
         CHECK(cbs_record_close(&recorder, &setup.house) == EINVAL);
     }
     CHECK(cbs_record_open(&recorder, &setup.house, path, servers, 2, 4, NULL, 1000000001, 100) == EINVAL);
+    CHECK(opens(&recorder, &setup, 16777185) == EINVAL && opens(&recorder, &setup, UINT32_MAX) == EINVAL);
     CHECK(access(path, F_OK) != 0 && has_no_tape(&setup));
     struct cbs_handle shut = SHUT;
     CHECK(cbs_record_open(&recorder, &shut, path, servers, 2, 4, NULL, 0, 100) == EINVAL);
@@ -134,7 +149,7 @@ static void refuses_a_house_that_made_a_step(void) {
     }
 }
 
-/* A file with room for the first two bytes of steps. */
+/* A file with room for the first two bytes of steps, and for a part of the next block. */
 static void goes_on_when_the_file_is_full(void) {
     static const uint8_t steps[] = {0x40, 0x03};
     struct setup setup;
@@ -143,7 +158,7 @@ static void goes_on_when_the_file_is_full(void) {
     set_up(&setup, servers, 2, 4, 4);
     CHECK(getrlimit(RLIMIT_FSIZE, &before) == 0);
     small = before;
-    small.rlim_cur = sizeof head + 2;
+    small.rlim_cur = HEAD + 8 + 2 + 8 + 5;
     signal(SIGXFSZ, SIG_IGN);
     CHECK(setrlimit(RLIMIT_FSIZE, &small) == 0);
     CHECK(opens(&recorder, &setup, 100) == 0);

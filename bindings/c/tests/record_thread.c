@@ -5,6 +5,7 @@
 #endif
 #include "cbs_realtime.h"
 #include "cbs_record_thread.h"
+#include "blocks.h"
 #include "check.h"
 #include <fcntl.h>
 #include <sys/resource.h>
@@ -13,7 +14,8 @@
 
 static const struct cbs_server servers[1] = {{2, 5, CBS_SOFT}};
 static const char head[] = "record = 1\nbound = [1, 1]\nbacklog = 4\nserver = [\n"
-                           "  { name = \"server-0\", mode = \"soft\", budget = 2, period = 5 },\n]\n";
+                           "  { name = \"server-0\", mode = \"soft\", budget = 2, period = 5 },\n]\n\3";
+#define HEAD (sizeof head - 1)
 static char path[64];
 
 /* A house that is recorded by a thread. */
@@ -61,17 +63,19 @@ static void is_told(struct recorded *it, uint64_t bytes) {
     }
 }
 
-/* Reads what a file has, n bytes at most. */
-static size_t reads(uint8_t *bytes, size_t n) {
+/* Reads the steps that a file has. Returns how many bytes they are. */
+static size_t reads(uint8_t *steps) {
+    static uint8_t bytes[65536];
     FILE *file = fopen(path, "rb");
     CHECK(file != NULL);
-    size_t length = fread(bytes, 1, n, file);
+    size_t length = fread(bytes, 1, sizeof bytes, file);
     fclose(file);
-    return length;
+    CHECK(length >= HEAD && memcmp(bytes, head, HEAD) == 0);
+    return steps_in(bytes, length, HEAD, steps);
 }
 
-/* Records 2000 rounds. Returns how many bytes the file has, which are left at `bytes`. */
-static size_t records(uint32_t blocks, uint64_t every, uint8_t *bytes, size_t n) {
+/* Records 2000 rounds. Returns how many bytes of steps the file has, which are left at `bytes`. */
+static size_t records(uint32_t blocks, uint64_t every, uint8_t *bytes) {
     struct recorded it;
     begins(&it, 65536, blocks); /* the tape has room for all, so no step is lost */
     it.recorder.every = every;
@@ -80,19 +84,18 @@ static size_t records(uint32_t blocks, uint64_t every, uint8_t *bytes, size_t n)
         steps(&it);
     }
     CHECK(ends(&it) == 0 && !it.recorder.lost && has_no_tape(&it) && ends(&it) == 0);
-    size_t length = reads(bytes, n);
-    CHECK(length == sizeof head + it.recorder.bytes + 1 && bytes[length - 1] == CBS_TAPE_END);
+    size_t length = reads(bytes);
+    CHECK(length == it.recorder.bytes + 1 && bytes[length - 1] == CBS_TAPE_END);
     tear_down(&it.setup);
     return length;
 }
 
 static void writes_what_the_serving_thread_writes(void) {
     static uint8_t wanted[65536], bytes[65536];
-    size_t length = records(0, 0, wanted, sizeof wanted);
-    CHECK(memcmp(wanted, head, sizeof head) == 0);
+    size_t length = records(0, 0, wanted);
     for (uint32_t blocks = 1; blocks <= 4; blocks++) {
         for (uint64_t every = 0; every <= 100; every += 50) {
-            CHECK(records(blocks, every, bytes, sizeof bytes) == length && memcmp(bytes, wanted, length) == 0);
+            CHECK(records(blocks, every, bytes) == length && memcmp(bytes, wanted, length) == 0);
         }
     }
 }
@@ -141,11 +144,12 @@ static void *drains(void *of) {
 /* A pipe that is full takes nothing until somebody reads: a step that waited for it would wait for ever. */
 static void never_waits_for_the_file(void) {
     static struct drained drained;
+    static uint8_t steps_there[1 << 20];
     struct recorded it;
     pthread_t reader;
     drained.end = opens_a_pipe();
     begins(&it, 1000, 2);
-    size_t before = sizeof head + fills();
+    size_t before = HEAD + 8 + fills(); /* the text, and a block with no steps */
     bool lost = false;
     uint64_t made = 0;
     while (!lost) {
@@ -161,23 +165,25 @@ static void never_waits_for_the_file(void) {
     CHECK(pthread_create(&reader, NULL, drains, &drained) == 0);
     CHECK(ends(&it) == 0 && it.recorder.lost && it.recorder.bytes == 2 * (made - 1));
     CHECK(pthread_join(reader, NULL) == 0 && close(drained.end) == 0);
-    CHECK(drained.length == before + it.recorder.bytes); /* all but the step that was lost, and no mark */
+    uint32_t sum = sum_after(0, drained.bytes, HEAD + 4); /* of the text, and of the length of no steps */
+    size_t length = steps_after(sum, drained.bytes + before, drained.length - before, steps_there);
+    CHECK(length == it.recorder.bytes); /* all but the step that was lost, and no mark */
     for (size_t step = 0; step < made - 1; step++) {
-        CHECK(drained.bytes[before + 2 * step] == 2 && drained.bytes[before + 2 * step + 1] == 1 + step % 250);
+        CHECK(steps_there[2 * step] == 2 && steps_there[2 * step + 1] == 1 + step % 250);
     }
     remove(path);
     tear_down(&it.setup);
 }
 
-/* A file with room for two bytes of steps. The thread takes no signal, so SIGXFSZ does not end the program. */
+/* A file with room for two bytes of steps, and for a part of the next block. The thread takes no signal, so SIGXFSZ does not end the program. */
 static void goes_on_when_the_file_is_full(void) {
     static const uint8_t wanted[] = {0x40, 0x03};
-    uint8_t bytes[sizeof head + 10];
+    uint8_t bytes[100];
     struct recorded it;
     struct rlimit before, small;
     CHECK(getrlimit(RLIMIT_FSIZE, &before) == 0);
     small = before;
-    small.rlim_cur = sizeof head + 2;
+    small.rlim_cur = HEAD + 8 + 2 + 8 + 5;
     CHECK(setrlimit(RLIMIT_FSIZE, &small) == 0);
     begins(&it, 100, 2);
     submit(&it.setup, 0, 7, 3, 0);
@@ -192,7 +198,7 @@ static void goes_on_when_the_file_is_full(void) {
     steps(&it);
     CHECK(ends(&it) == EFBIG && ends(&it) == EFBIG && it.recorder.thread == NULL);
     CHECK(setrlimit(RLIMIT_FSIZE, &before) == 0);
-    CHECK(reads(bytes, sizeof bytes) == sizeof head + 2 && memcmp(bytes + sizeof head, wanted, 2) == 0);
+    CHECK(reads(bytes) == 2 && memcmp(bytes, wanted, 2) == 0);
     tear_down(&it.setup);
 }
 
@@ -213,7 +219,7 @@ static void tells_an_error_at_the_close(void) {
 
 /* What is refused leaves a recording as it was. */
 static void refuses_what_is_no_thread(void) {
-    uint8_t bytes[sizeof head + 10];
+    uint8_t bytes[100];
     struct recorded it;
     struct cbs_record_thread other;
     begins(&it, 100, 0);
@@ -225,7 +231,7 @@ static void refuses_what_is_no_thread(void) {
     CHECK(cbs_record_thread_open(&it.thread, &it.recorder, 1) == 0);
     CHECK(cbs_record_thread_open(&other, &it.recorder, 1) == EINVAL);
     CHECK(cbs_advance(&it.setup.house, 5) == CBS_OK && ends(&it) == 0 && it.recorder.bytes == 5);
-    CHECK(reads(bytes, sizeof bytes) == sizeof head + 6);
+    CHECK(reads(bytes) == 6);
     CHECK(cbs_record_thread_open(&it.thread, &it.recorder, 1) == EINVAL);
     CHECK(cbs_record_open(&it.recorder, &it.setup.house, "/dev/full", servers, 1, 4, NULL, 0, 100) == EINVAL);
     tear_down(&it.setup);
@@ -242,7 +248,7 @@ static void works(void *context, const struct cbs_unit *unit) {
 
 /* A loop in real time: a job of 3 units, and then the end. */
 static void a_loop_gives_its_steps(void) {
-    uint8_t bytes[sizeof head + 100];
+    uint8_t bytes[100];
     struct recorded it;
     struct cbs_bell bell;
     begins(&it, 100, 2);
@@ -253,8 +259,8 @@ static void a_loop_gives_its_steps(void) {
     realtime.recorder = &it.recorder;
     CHECK(cbs_realtime_run(&realtime, &it.setup.house) == CBS_OK && realtime.over);
     CHECK(ends(&it) == 0 && it.recorder.bytes >= 5); /* a job, units, and an end */
-    size_t length = reads(bytes, sizeof bytes);
-    CHECK(length == sizeof head + it.recorder.bytes + 1 && bytes[length - 1] == CBS_TAPE_END);
+    size_t length = reads(bytes);
+    CHECK(length == it.recorder.bytes + 1 && bytes[length - 1] == CBS_TAPE_END);
     cbs_bell_close(&bell);
     tear_down(&it.setup);
 }

@@ -1,6 +1,7 @@
 // cbs.hpp: each call of houses, clients, plans and real time; jobs that are refused, that throw, and
 // that are left unfinished; senders on threads of their own.
 #include "cbs.hpp"
+#include "blocks.h"
 #include "check.h"
 #include <array>
 #include <atomic>
@@ -666,13 +667,22 @@ static std::string file_at(const std::string &path) {
     return std::string((std::istreambuf_iterator<char>(file)), std::istreambuf_iterator<char>());
 }
 
+// Returns the steps that the blocks of a file have.
+static std::vector<std::uint8_t> steps_of(const std::string &file) {
+    const std::vector<std::uint8_t> bytes(file.begin(), file.end());
+    std::vector<std::uint8_t> steps(bytes.size());
+    steps.resize(steps_in(bytes.data(), bytes.size(), file.find('\3') + 1, steps.data()));
+    return steps;
+}
+
 // The file of a recorder, which a loop in real time writes to as well; and files that there are not.
 static void recorders() {
     const std::string path = "/tmp/cbs-wrapper-" + std::to_string(getpid());
     cbs::Plan plan;
     plan.admit(2, 5, cbs::Mode::Soft);
     auto [house, clients] = plan.open(4, 4);
-    for (const cbs::RecordSettings &wrong : {cbs::RecordSettings{{"a b"}, 0ns}, cbs::RecordSettings{{}, 2s}}) {
+    for (const cbs::RecordSettings &wrong : {cbs::RecordSettings{{"a b"}, 0ns}, cbs::RecordSettings{{}, 2s},
+                                             cbs::RecordSettings{{}, 0ns, 16777185}}) {
         bool thrown = false;
         try {
             cbs::Recorder none(house, path, wrong);
@@ -700,13 +710,15 @@ static void recorders() {
     CHECK(!recorder.close() && !recorder.close());
     const std::string written = file_at(path);
     const std::string head = "record = 1\ntick = \"1000 ns\"\nbound = [1, 1]\nbacklog = 4\nserver = [\n"
-                             "  { name = \"laundry\", mode = \"soft\", budget = 2, period = 5 },\n]\n";
-    CHECK(written.substr(0, head.size() + 4) == head + std::string("\0\x40\x03\xC0", 4) && written.back() == 4);
+                             "  { name = \"laundry\", mode = \"soft\", budget = 2, period = 5 },\n]\n\3";
+    const std::vector<std::uint8_t> steps = steps_of(written);
+    CHECK(written.substr(0, head.size()) == head && steps.back() == 4);
+    CHECK(steps[0] == 0x40 && steps[1] == 3 && steps[2] == 0xC0);
     std::remove(path.c_str());
 }
 
-// Returns what a recorder with so many blocks leaves in the file. Its close, or else its destructor, ends it.
-static std::string recorded(const std::string &path, std::uint32_t blocks, bool closes) {
+// Returns the steps that a recorder with so many blocks leaves in the file. Its close, or else its destructor, ends it.
+static std::vector<std::uint8_t> recorded(const std::string &path, std::uint32_t blocks, bool closes) {
     auto [house, clients] = open(cbs::Mode::Soft, 4, 4);
     cbs::RecordSettings settings;
     settings.every = 5;
@@ -722,13 +734,13 @@ static std::string recorded(const std::string &path, std::uint32_t blocks, bool 
         CHECK(!closes || (!recorder.close() && recorder.bytes() > 900 && !recorder.close()));
     }
     throws(CBS_CALL_NO_TAPE, [&house = house] { house.tape_lost(); });
-    return file_at(path);
+    return steps_of(file_at(path));
 }
 
-// A thread that writes: the file of the serving thread, more blocks than there may be, and a pipe that nobody reads any more.
+// A thread that writes: the steps of the serving thread, more blocks than there may be, and a pipe that nobody reads any more.
 static void recorders_with_a_thread() {
     const std::string path = "/tmp/cbs-wrapper-thread-" + std::to_string(getpid());
-    const std::string wanted = recorded(path, 0, true);
+    const std::vector<std::uint8_t> wanted = recorded(path, 0, true);
     CHECK(wanted.back() == 4 && recorded(path, 1, true) == wanted);
     CHECK(recorded(path, 8, true) == wanted && recorded(path, 2, false) == wanted);
     auto [house, clients] = open(cbs::Mode::Soft, 4, 4);

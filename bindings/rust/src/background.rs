@@ -1,14 +1,12 @@
 //! A thread that writes what it is given, so that who gives it never waits for the writer.
 
+use crate::blocks::Blocks;
 use crate::error::TapeError;
-use std::io::{self, ErrorKind, Write};
+use std::io::{self, ErrorKind};
 use std::panic::{catch_unwind, AssertUnwindSafe};
 use std::sync::atomic::{AtomicBool, AtomicU64, Ordering};
 use std::sync::{Arc, Mutex, MutexGuard, PoisonError};
 use std::thread::{self, JoinHandle};
-
-/// Where bytes go.
-pub(crate) type To = Box<dyn Write + Send>;
 
 /// Memory, and how many bytes of it are to be written.
 struct Block {
@@ -63,13 +61,12 @@ impl Shared {
     }
 
     /// Writes what is given, until no more is given. Returns the writer.
-    fn write(&self, mut to: To) -> io::Result<To> {
+    fn write(&self, mut to: Blocks) -> io::Result<Blocks> {
         let mut written = 0;
         while self.awaits(written) {
             let block = self.block(written).lock();
             let block = block.unwrap_or_else(PoisonError::into_inner);
-            to.write_all(&block.memory[..block.length])?;
-            to.flush()?;
+            to.write(&block.memory[..block.length])?;
             self.bytes.fetch_add(block.length as u64, Ordering::Release);
             drop(block);
             written += 1;
@@ -79,7 +76,7 @@ impl Shared {
     }
 
     /// Does what the thread does. Returns the writer, unless it failed or panicked.
-    fn run(&self, to: To) -> Option<To> {
+    fn run(&self, to: Blocks) -> Option<Blocks> {
         let error = match catch_unwind(AssertUnwindSafe(|| self.write(to))) {
             Ok(Ok(to)) => return Some(to),
             Ok(Err(error)) => error,
@@ -95,12 +92,12 @@ impl Shared {
 pub(crate) struct Background {
     shared: Arc<Shared>,
     /// None after the end.
-    thread: Option<JoinHandle<Option<To>>>,
+    thread: Option<JoinHandle<Option<Blocks>>>,
 }
 
 impl Background {
     /// Begins a thread with so many blocks of this size.
-    pub(crate) fn new(to: To, blocks: usize, size: usize) -> io::Result<Background> {
+    pub(crate) fn new(to: Blocks, blocks: usize, size: usize) -> io::Result<Background> {
         // No zeros: the memory is touched, so nobody waits for a page later.
         let block = || Block {
             memory: vec![1; size],
@@ -162,7 +159,7 @@ impl Background {
     }
 
     /// Waits until what was given is written. Returns the writer, unless it failed, or this was called before.
-    pub(crate) fn end(&mut self) -> Option<To> {
+    pub(crate) fn end(&mut self) -> Option<Blocks> {
         self.shared.ends.store(true, Ordering::Release);
         self.wake();
         self.thread.take()?.join().ok()?

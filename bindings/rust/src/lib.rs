@@ -48,6 +48,7 @@
 
 mod background;
 mod bell;
+mod blocks;
 mod client;
 mod doing;
 mod error;

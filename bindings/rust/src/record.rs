@@ -20,8 +20,9 @@
 //! # Ok::<(), Box<dyn std::error::Error>>(())
 //! ```
 //!
-//! The file is a record with a tape: a text that says what the servers are, a zero byte, and then a byte or two for each step. What
-//! [`step`](Recorder::step) wrote is in the file also if the process is killed then; what it did not write is lost with the process.
+//! The file is a record with a tape: a text that says what the servers are, and then a byte or two for each step, in blocks with a
+//! sum each. So a byte that is changed later is told. What [`step`](Recorder::step) wrote is in the file also if the process is
+//! killed then; what it did not write is lost with the process.
 //!
 //! The serving thread waits for the writer, unless [`blocks`](Settings::blocks) are set: then a thread of its own writes.
 //!
@@ -41,7 +42,8 @@
 //! # Ok::<(), Box<dyn std::error::Error>>(())
 //! ```
 
-use crate::background::{Background, To};
+use crate::background::Background;
+use crate::blocks::{Blocks, To, MOST};
 use crate::error::TapeError;
 use crate::ffi::Server;
 use crate::house::House;
@@ -57,7 +59,7 @@ pub struct Settings {
     pub names: Vec<String>,
     /// How long a tick is, at most a second, if it has a length.
     pub tick: Option<Duration>,
-    /// How many bytes the steps between two writes may take. A step takes 20 at most, and mostly 1 or 2.
+    /// How many bytes the steps between two writes may take, at most 16777184. A step takes 20 at most, and mostly 1 or 2.
     pub bytes: u32,
     /// How many ticks pass at least between two writes. With 0 each [`Recorder::step`] writes.
     pub every: u64,
@@ -72,6 +74,9 @@ pub struct Settings {
     /// The thread inherits the priority and the processors of the one that makes the recorder.
     pub blocks: usize,
 }
+
+/// How many bytes longer than asked for a tape is.
+const MARGIN: usize = 31;
 
 impl Default for Settings {
     fn default() -> Settings {
@@ -92,7 +97,7 @@ impl Default for Settings {
 /// A recorder that is dropped with no [`end`](Recorder::end) writes nothing more, and no mark. If a thread writes, the drop waits
 /// until it has written what it was given.
 pub struct Recorder {
-    to: Option<To>,
+    to: Option<Blocks>,
     /// The thread that writes, if one does.
     background: Option<Background>,
     error: Option<io::Error>,
@@ -148,7 +153,19 @@ impl Settings {
         Ok(names)
     }
 
-    /// Returns the text of a record of a house with these servers and this backlog, and the zero byte after it.
+    /// Returns how many bytes the memory of the tape has.
+    fn size(&self) -> io::Result<usize> {
+        match self.bytes as usize + MARGIN {
+            size if size <= MOST => Ok(size),
+            _ => Err(wrong(format!(
+                "the steps between two writes take at most {} bytes, and not {}",
+                MOST - MARGIN,
+                self.bytes
+            ))),
+        }
+    }
+
+    /// Returns the text of a record of a house with these servers and this backlog, and the byte that ends it.
     fn head(&self, rates: &[Server], backlog: usize) -> io::Result<String> {
         let mut text = String::from("record = 1\n");
         match self.tick.map(|tick| tick.as_nanos()) {
@@ -167,7 +184,7 @@ impl Settings {
             let mode = if mode == 0 { "soft" } else { "throttled" };
             text += &format!("  {{ name = \"{name}\", mode = \"{mode}\", budget = {budget}, period = {period} }},\n");
         }
-        Ok(text + "]\n\0")
+        Ok(text + "]\n\x03")
     }
 }
 
@@ -194,22 +211,19 @@ impl Recorder {
             return Err(wrong("the house made a step before".into()));
         }
         let head = settings.head(house.rates(), house.backlog())?;
-        let mut to: To = Box::new(to);
-        to.write_all(head.as_bytes())?;
-        to.flush()?;
+        let size = settings.size()?;
+        let to: To = Box::new(to);
+        let to = Blocks::begin(to, &head, size)?;
         let (to, background) = match settings.blocks {
             0 => (Some(to), None),
-            blocks => {
-                let size = settings.bytes as usize + 31; // that of the tape
-                (None, Some(Background::new(to, blocks, size)?))
-            }
+            blocks => (None, Some(Background::new(to, blocks, size)?)),
         };
         house.record(settings.bytes)?;
         Ok(Recorder {
             to,
             background,
             error: None,
-            buffer: Vec::with_capacity(settings.bytes as usize + 32),
+            buffer: Vec::with_capacity(size),
             bytes: 0,
             every: settings.every,
             next: 0,
@@ -292,10 +306,7 @@ impl Recorder {
         };
         self.buffer.clear();
         let taken = take(house, &mut self.buffer).map_err(io::Error::from);
-        let written = taken
-            .and_then(|()| to.write_all(&self.buffer))
-            .and_then(|()| to.flush());
-        match written {
+        match taken.and_then(|()| to.write(&self.buffer)) {
             Ok(()) => self.bytes += self.buffer.len() as u64,
             Err(error) => self.fail(error, house),
         }

@@ -98,6 +98,41 @@ impl Kept {
     fn bytes(&self) -> Vec<u8> {
         self.bytes.lock().unwrap().clone()
     }
+
+    fn steps(&self) -> Vec<u8> {
+        steps_of(&self.bytes())
+    }
+}
+
+/// Returns the CRC-32 of bytes, bit by bit, from that of the bytes before them.
+fn sum_after(sum: u32, bytes: &[u8]) -> u32 {
+    let mut register = !sum;
+    for byte in bytes {
+        register ^= u32::from(*byte);
+        for _ in 0..8 {
+            register = (register >> 1) ^ (0xEDB8_8320 * (register & 1));
+        }
+    }
+    !register
+}
+
+/// Returns the steps that the blocks of a file have. Each has to be right; one that is cut is left out.
+fn steps_of(file: &[u8]) -> Vec<u8> {
+    let text = file.iter().position(|byte| *byte == 3).unwrap() + 1;
+    let mut sum = sum_after(0, &file[..text]);
+    let (mut steps, mut rest) = (Vec::new(), &file[text..]);
+    while let [low, middle, high, check, ..] = *rest {
+        assert_eq!(low ^ middle ^ high ^ check, 255);
+        let end = 4 + usize::from(low) + 256 * usize::from(middle) + 65536 * usize::from(high);
+        if rest.len() < end + 4 {
+            break;
+        }
+        sum = sum_after(sum, &rest[..end]);
+        assert_eq!(rest[end..end + 4], sum.to_le_bytes());
+        steps.extend_from_slice(&rest[4..end]);
+        rest = &rest[end + 4..];
+    }
+    steps
 }
 
 impl Write for Kept {
@@ -124,7 +159,10 @@ server = [
   { name = \"control\", mode = \"soft\", budget = 2, period = 5 },
   { name = \"server-1\", mode = \"throttled\", budget = 2, period = 5 },
 ]
-\0";
+\x03";
+
+/// How many bytes a file has with no step: the text, and a block with none.
+const BEGUN: usize = HEAD.len() + 8;
 
 fn settings() -> Settings {
     Settings {
@@ -140,20 +178,25 @@ fn a_file_has_what_the_house_is_and_each_step() {
     let (mut house, mut clients) = open();
     let kept = Kept::with_room(1000);
     let mut recorder = Recorder::new(&mut house, kept.clone(), &settings()).unwrap();
-    assert_eq!(kept.bytes(), HEAD.as_bytes());
+    assert_eq!(kept.bytes().len(), BEGUN);
+    assert_eq!(kept.bytes()[..HEAD.len()], *HEAD.as_bytes());
     submit(&mut house, &mut clients[0], 0, 3);
     runs(&mut house, 0);
     recorder.step(&mut house);
     recorder.step(&mut house);
-    assert_eq!(kept.bytes()[HEAD.len()..], [0x40, 3, 0xC0]);
+    assert_eq!(kept.steps(), [0x40, 3, 0xC0]);
     house.advance(300).unwrap();
     assert_eq!(recorder.bytes(), 3);
     assert!(recorder.error().is_none());
     recorder.end(&mut house).unwrap();
-    assert_eq!(
-        kept.bytes()[HEAD.len()..],
-        [0x40, 3, 0xC0, 2, 253, 0x2C, 1, 4]
-    );
+    assert_eq!(kept.steps(), [0x40, 3, 0xC0, 2, 253, 0x2C, 1, 4]);
+    // The sums are those of Python's zlib.crc32.
+    let blocks: [&[u8]; 3] = [
+        &[0, 0, 0, 255, 0xCC, 0x7E, 0x18, 0xC6],
+        &[3, 0, 0, 252, 0x40, 3, 0xC0, 0x98, 0x84, 0xC4, 0x99],
+        &[5, 0, 0, 250, 2, 253, 0x2C, 1, 4, 0x4D, 0x2B, 0x7D, 0x9D],
+    ];
+    assert_eq!(kept.bytes()[HEAD.len()..], blocks.concat());
     assert_eq!(house.tape_lost(), Err(TapeError::NoTape));
 }
 
@@ -176,7 +219,7 @@ fn nothing_is_written_before_so_many_ticks() {
     recorder.step(&mut house); // 12 ticks later
     assert_eq!(recorder.bytes(), 6);
     recorder.end(&mut house).unwrap();
-    assert_eq!(kept.bytes()[HEAD.len()..], [2, 7, 2, 3, 2, 9, 4]);
+    assert_eq!(kept.steps(), [2, 7, 2, 3, 2, 9, 4]);
 }
 
 #[test]
@@ -191,16 +234,16 @@ fn a_step_that_was_lost_leaves_no_mark() {
     house.advance(7).unwrap();
     house.advance(7).unwrap();
     recorder.end(&mut house).unwrap();
-    assert_eq!(kept.bytes()[HEAD.len()..], [2, 7]);
+    assert_eq!(kept.steps(), [2, 7]);
 }
 
 #[test]
 fn an_error_of_the_writer_ends_the_recording_alone() {
     let (mut house, mut clients) = open();
-    let none = Recorder::new(&mut house, Kept::with_room(HEAD.len() - 1), &settings());
+    let none = Recorder::new(&mut house, Kept::with_room(BEGUN - 1), &settings());
     assert_eq!(none.unwrap_err().raw_os_error(), Some(FULL));
     assert_eq!(house.tape_lost(), Err(TapeError::NoTape));
-    let kept = Kept::with_room(HEAD.len() + 2);
+    let kept = Kept::with_room(BEGUN + 15); // for a block of two bytes, and a part of the next one
     let mut recorder = Recorder::new(&mut house, kept.clone(), &settings()).unwrap();
     submit(&mut house, &mut clients[0], 0, 3);
     recorder.step(&mut house);
@@ -216,7 +259,7 @@ fn an_error_of_the_writer_ends_the_recording_alone() {
         recorder.end(&mut house).unwrap_err().raw_os_error(),
         Some(FULL)
     );
-    assert_eq!(kept.bytes()[HEAD.len()..], [0x40, 3]);
+    assert_eq!(kept.steps(), [0x40, 3]);
 }
 
 #[test]
@@ -253,6 +296,12 @@ fn wrong_names_and_ticks_are_refused() {
             "{tick:?}"
         );
     }
+    let large = Settings {
+        bytes: 16_777_185,
+        ..settings()
+    };
+    let none = Recorder::new(&mut house, Kept::with_room(0), &large);
+    assert_eq!(none.unwrap_err().kind(), ErrorKind::InvalidInput);
     assert_eq!(house.tape_lost(), Err(TapeError::NoTape));
 }
 
@@ -313,7 +362,7 @@ fn a_loop_in_real_time_writes_its_steps() {
     assert!(realtime.recorder().is_none());
     realtime.end_record().unwrap();
     let bytes = kept.bytes();
-    let end = bytes.iter().position(|byte| *byte == 0).unwrap();
+    let end = bytes.iter().position(|byte| *byte == 3).unwrap();
     let text = std::str::from_utf8(&bytes[..end]).unwrap();
     assert!(
         text.contains("tick = \"1000000 ns\"\n")
@@ -321,7 +370,7 @@ fn a_loop_in_real_time_writes_its_steps() {
     );
     // A job of three units, and the first of them; the client's end, which the next question takes; a unit; three ticks until the
     // deadline; the third unit; the mark.
-    assert_eq!(bytes[end + 1..], [0x40, 3, 0xC0, 3, 0, 0xC0, 2, 3, 0xC0, 4]);
+    assert_eq!(steps_of(&bytes), [0x40, 3, 0xC0, 3, 0, 0xC0, 2, 3, 0xC0, 4]);
 }
 
 /// Does 300 rounds of a job, its two units and some ticks, and steps after each. Returns what comes of the end.
@@ -355,11 +404,11 @@ fn in_blocks(blocks: usize, every: u64) -> Settings {
 fn a_thread_writes_what_the_serving_thread_writes() {
     let wanted = Kept::with_room(10_000);
     records(wanted.clone(), &in_blocks(0, 0)).unwrap();
-    assert_eq!(wanted.bytes().last(), Some(&4));
+    assert_eq!(wanted.steps().last(), Some(&4));
     for (blocks, every) in [(1, 0), (4, 0), (2, 50), (3, 1000)] {
         let kept = Kept::with_room(10_000);
         records(kept.clone(), &in_blocks(blocks, every)).unwrap();
-        assert_eq!(kept.bytes(), wanted.bytes(), "{blocks} {every}");
+        assert_eq!(kept.steps(), wanted.steps(), "{blocks} {every}");
     }
 }
 
@@ -404,13 +453,13 @@ fn a_step_never_waits_for_the_writer() {
     recorder.end(&mut house).unwrap();
     // What was lost is after the last step in the file, and there is no mark.
     let steps: Vec<u8> = (1..made).flat_map(|n| [2, n as u8]).collect();
-    assert_eq!(kept.bytes()[HEAD.len()..], steps);
+    assert_eq!(kept.steps(), steps);
 }
 
 #[test]
 fn an_error_in_the_thread_ends_the_recording_alone() {
     let (mut house, mut clients) = open();
-    let kept = Kept::with_room(HEAD.len() + 2);
+    let kept = Kept::with_room(BEGUN + 15); // for a block of two bytes, and a part of the next one
     let settings = Settings {
         blocks: 2,
         ..settings()
@@ -434,18 +483,18 @@ fn an_error_in_the_thread_ends_the_recording_alone() {
     assert_eq!(recorder.bytes(), 2);
     let error = recorder.end(&mut house).unwrap_err();
     assert_eq!(error.raw_os_error(), Some(FULL));
-    assert_eq!(kept.bytes()[HEAD.len()..], [0x40, 3]);
+    assert_eq!(kept.steps(), [0x40, 3]);
 }
 
 #[test]
 fn an_error_in_the_thread_is_told_at_the_end() {
     for room in [0, 1, 100, 1000] {
-        let kept = Kept::with_room(HEAD.len() + room);
+        let kept = Kept::with_room(BEGUN + room);
         let error = records(kept.clone(), &in_blocks(2, 0)).unwrap_err();
         assert_eq!(error.raw_os_error(), Some(FULL));
         let wanted = Kept::with_room(10_000);
         records(wanted.clone(), &in_blocks(0, 0)).unwrap();
-        assert_eq!(kept.bytes(), wanted.bytes()[..HEAD.len() + room]);
+        assert!(kept.bytes().len() == BEGUN + room && wanted.steps().starts_with(&kept.steps()));
     }
 }
 
@@ -483,7 +532,7 @@ fn a_recorder_that_is_dropped_has_written_what_it_was_given() {
     recorder.step(&mut house);
     runs(&mut house, 0);
     drop(recorder);
-    assert_eq!(kept.bytes()[HEAD.len()..], [0x40, 3]);
+    assert_eq!(kept.steps(), [0x40, 3]);
 }
 
 #[test]
@@ -499,7 +548,5 @@ fn a_loop_in_real_time_gives_its_steps() {
     realtime.record(kept.clone(), &in_blocks(4, 0)).unwrap();
     assert_eq!(realtime.run(|_| {}).unwrap(), Ended::Closed);
     realtime.end_record().unwrap();
-    let bytes = kept.bytes();
-    let end = bytes.iter().position(|byte| *byte == 0).unwrap();
-    assert_eq!(bytes[end + 1..], [0x40, 3, 0xC0, 3, 0, 0xC0, 2, 3, 0xC0, 4]);
+    assert_eq!(kept.steps(), [0x40, 3, 0xC0, 3, 0, 0xC0, 2, 3, 0xC0, 4]);
 }

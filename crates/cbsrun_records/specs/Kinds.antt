@@ -14,6 +14,6 @@ begins_pair text = starts_with eqb text (codes "record") && (first (skip_ws (dro
 abbrev pub begins_so : List ℕ → Bool
 begins_so text = is_utf8 text && begins_pair (skip_blank (skip_bom text))
 
--- the text of the bytes, up to the first zero byte, begins so
+-- the text of the bytes, up to the first byte 3, begins so
 abbrev pub begins_record : List ℕ → Bool
 begins_record bytes = begins_so (text_of bytes)

@@ -1,18 +1,24 @@
 -- The text of a record, and its tape.
 use Rattle.std.specs.Prelude.{ℕ, ◌+◌, eqb, List, drop, take, Option, Some, None}
 use Rattle.std.specs.List.{position}
+use Rattle.cbs_sums.specs.Blocks.{tape_after}
 
--- the text of a record, and the bytes of its tape, if it has one: a zero byte at this place parts them
-abbrev pub parts_at : List ℕ → Option ℕ → List ℕ × Option (List ℕ)
-parts_at bytes None = (bytes, None)
-parts_at bytes (Some n) = (take n bytes, Some (drop (n + 1) bytes))
+-- the place of the byte that ends the text, if the record has a tape
+abbrev pub text_end : List ℕ → Option ℕ
+text_end bytes = position (λ b. eqb b 3) bytes
 
--- the first zero byte parts them
-abbrev pub parts_of : List ℕ → List ℕ × Option (List ℕ)
-parts_of bytes = parts_at bytes (position (λ b. eqb b 0) bytes)
+-- the bytes before it
+abbrev pub text_before : List ℕ → Option ℕ → List ℕ
+text_before bytes None = bytes
+text_before bytes (Some n) = take n bytes
 
 abbrev pub text_of : List ℕ → List ℕ
-text_of bytes = (parts_of bytes).0
+text_of bytes = text_before bytes (text_end bytes)
+
+-- the bytes of the tape that the blocks after it have
+abbrev pub taped_after : List ℕ → Option ℕ → Option (List ℕ)
+taped_after bytes None = None
+taped_after bytes (Some n) = Some (tape_after (take (n + 1) bytes) (drop (n + 1) bytes))
 
 abbrev pub tape_of : List ℕ → Option (List ℕ)
-tape_of bytes = (parts_of bytes).1
+tape_of bytes = taped_after bytes (text_end bytes)

@@ -9,11 +9,11 @@ ghost use Rattle.cbsrun_toml_tables.specs.Fields.{Gives, each_from};
 ghost use Rattle.cbsrun_toml_tables.specs.Memory.{IsBounded, result_of};
 ghost use Rattle.cbsrun_records.specs.Entries.{step_entry};
 ghost use Rattle.cbsrun_records.specs.Records.{IsEntryOf};
-ghost use Rattle.cbsrun_records.specs.Parts.{tape_of, text_of};
+ghost use Rattle.cbsrun_records.specs.Parts.{text_of};
 ghost use Rattle.cbsrun_records.specs.Spelling.{record_in, record_of, steps_in};
 
 use crate::entries::step_entry;
-use crate::parts::parts_of;
+use crate::parts::{tape_of, text_of};
 use crate::record::Record;
 use crate::taped::taped_entries;
 use crate::top::top_table;
@@ -83,18 +83,23 @@ pub fn record_in(alloc: Global, tape: Option<&[u8]>, table: &Table) -> Result<Re
     })
 }
 
-/// Returns the record that a document spells, with this tape, if it has one, or its first fault.
+/// Returns the record that the bytes spell, whose text was read as this document, or its first fault.
 fn record_read(
     alloc: Global,
-    tape: Option<&[u8]>,
+    bytes: &[u8],
     read: Result<Table, FileFault>,
 ) -> Result<Record, FileFault>
-    ensures { (bytes : List ℕ) → option_map (λ tape. tape.now) tape.entry ≡ tape_of bytes
-        → Gives no_memory table_view read (at Top (document (text_of bytes)))
-        → Gives no_memory (λ f. f) result (record_of bytes) }
+    ensures { Gives no_memory table_view read (at Top (document (text_of bytes.now)))
+        → Gives no_memory (λ f. f) result (record_of bytes.now) }
 {
     let table = read?;
-    record_in(alloc, tape, &table)
+    let Ok(tape) = tape_of(alloc, bytes) else {
+        return Err(faulty(Place::Top, FileKind::OutOfMemory));
+    };
+    match tape {
+        Some(tape) => record_in(alloc, Some(&tape), &table),
+        None => record_in(alloc, None, &table),
+    }
 }
 
 /// Returns the record that the bytes spell, or its first fault, as [`read_record`] does, with a bound on memory.
@@ -106,24 +111,24 @@ pub fn read_record_within(alloc: Global, memory: u64, bytes: &[u8]) -> Bounded<R
     ensures read { Gives no_memory (λ f. f) (result_of result) (record_of bytes.now) }
     ensures bounded { IsBounded memory (text_of bytes.now) result }
 {
-    let (text, tape) = parts_of(bytes);
-    match document_within(alloc, memory, text) {
-        Bounded::InPieces(read) => Bounded::InPieces(record_read(alloc, tape, read)),
-        Bounded::Whole(read) => Bounded::Whole(record_read(alloc, tape, read)),
+    match document_within(alloc, memory, text_of(bytes)) {
+        Bounded::InPieces(read) => Bounded::InPieces(record_read(alloc, bytes, read)),
+        Bounded::Whole(read) => Bounded::Whole(record_read(alloc, bytes, read)),
         Bounded::TooLarge => Bounded::TooLarge,
     }
 }
 
 /// Returns the record that the bytes spell, or its first fault.
 ///
-/// The bytes up to the first zero byte are parsed as TOML. If there is such a byte, those after it are the tape: then the
-/// top table has no key `step`, and the tape tells the steps. Then the top table is tested, then each entry of `server` in order, then each entry of
-/// `step`. Each table is tested in four turns, each over all its keys: unknown keys, missing keys, types of values,
-/// ranges of values. After its tests, an entry of `server` is admitted to the plan. The key `record` of the top table
-/// and the `op` of a step are tested before the other keys.
+/// The bytes up to the first byte 3 are parsed as TOML. If there is such a byte, blocks with the tape stand after it
+/// ([`cbs_sums`]): then the top table has no key `step`, and the tape tells the steps. Then the top table is tested, then
+/// each entry of `server` in order, then each entry of `step`. Each table is tested in four turns, each over all its
+/// keys: unknown keys, missing keys, types of values, ranges of values. After its tests, an entry of `server` is admitted
+/// to the plan. The key `record` of the top table and the `op` of a step are tested before the other keys.
 ///
-/// An entry of a tape has to be one that `step` could have, and its place is its number. Bytes that are no entry are a
-/// fault at the place after the last one. A tape may be cut: the steps before the cut are those of the record.
+/// An entry of a tape has to be one that `step` could have, and its place is its number. Bytes that are no entry, and a
+/// block whose length or sum is wrong, are a fault at the place after the last one. A tape may be cut: the steps before
+/// the cut are those of the record.
 ///
 /// [`FileKind::OutOfMemory`] may come at any time, and its place is the top. A file that has to be read as one document
 /// and then needs more than [`MEMORY`] bytes is refused so before it is parsed.

@@ -8,7 +8,7 @@ ghost use Rattle.cbsrun_toml_tables.specs.Fields.{Gives, each_from, seen};
 ghost use Rattle.cbsrun_records.specs.Records.{IsEntryOf};
 ghost use Rattle.cbsrun_records.specs.Taped.{cut_after, is_entry_of, taped, taped_entry};
 
-use crate::parts::parts_of;
+use crate::parts::tape_of;
 use cbs_job::MAX_UNITS;
 use cbs_rules::LIMIT;
 use cbs_tape::{Ending, Entry, read};
@@ -85,10 +85,10 @@ pub(crate) fn taped_entries(
 pub fn cut_after(alloc: Global, bytes: &[u8]) -> Result<Option<u64>, AllocError>
     ensures { IfOk result (λ cut. cut ≡ cut_after bytes.now) }
 {
-    let (_text, Some(tape)) = parts_of(bytes) else {
+    let Some(tape) = tape_of(alloc, bytes)? else {
         return Ok(None);
     };
-    let read = read(alloc, tape)?;
+    let read = read(alloc, &tape)?;
     match read.ending {
         Ending::Cut => Ok(Some(read.entries.len() as u64)),
         Ending::Marked | Ending::Unknown => Ok(None),

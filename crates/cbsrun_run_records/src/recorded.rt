@@ -8,11 +8,12 @@ use crate::not_recorded::NotRecorded;
 use crate::same::{are_same_entries, has_servers_of};
 use crate::text::{append_steps, head_text};
 use crate::told::tape_of;
+use cbs_sums::{MOST, Sum, TEXT_END, push_block};
 use cbs_tape::{Entry, read};
 use cbsrun_records::{Record, read_record};
 use cbsrun_runs::Run;
 use cbsrun_toml_tables::FileKind;
-use std::alloc::{AllocError, Global};
+use std::alloc::Global;
 
 /// The form in which a record is written.
 #[derive(Clone, Copy, PartialEq, Eq)]
@@ -41,21 +42,35 @@ impl RecordForm {
     }
 
     /// Returns the bytes of a record with this head and these steps, which a tape has.
-    fn spelled(self, head: String, entries: &[Entry], tape: &[u8]) -> Result<Vec<u8>, AllocError> {
+    fn spelled(
+        self,
+        head: String,
+        entries: &[Entry],
+        tape: &[u8],
+    ) -> Result<Vec<u8>, NotRecorded> {
         let mut text = head;
         match self {
             RecordForm::Text => {
                 append_steps(&mut text, entries)?;
                 Ok(text.into_bytes())
             }
-            RecordForm::Tape => {
-                let mut bytes = text.into_bytes();
-                bytes.push(0)?;
-                bytes.extend_from_slice(tape)?;
-                Ok(bytes)
-            }
+            RecordForm::Tape => with_blocks(text.into_bytes(), tape),
         }
     }
+}
+
+/// Returns a text with a tape after it: an empty block, so that the text has a sum of its own, and one with the tape.
+fn with_blocks(text: Vec<u8>, tape: &[u8]) -> Result<Vec<u8>, NotRecorded> {
+    if tape.len() > MOST {
+        return Err(NotRecorded::TooLong);
+    }
+    let mut bytes = text;
+    bytes.extend_from_slice(&[TEXT_END])?;
+    let mut sum = Sum::new();
+    sum.add(&bytes);
+    push_block(&mut bytes, &mut sum, &[])?;
+    push_block(&mut bytes, &mut sum, tape)?;
+    Ok(bytes)
 }
 
 /// Returns the record that bytes spell.

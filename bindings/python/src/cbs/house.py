@@ -230,8 +230,8 @@ class House:
         """Writes the steps of the house to a file from now on, for `cbsrun replay`. Call it before the first step.
 
         `tick` is told in the file. What was done is written each `every` units, and if the house waits. The steps between two
-        writes may take `room` bytes: a step takes 20 at most, and mostly 1 or 2. A job that ends early is no step of such a
-        file: what the house does after that is not in it. Raises OSError if the file cannot be written."""
+        writes may take `room` bytes, at most 16777184: a step takes 20 at most, and mostly 1 or 2. A job that ends early is no
+        step of such a file: what the house does after that is not in it. Raises OSError if the file cannot be written."""
         if self.recorder is not None or not self._is_new():
             raise CbsError("a recording begins before the first step of a house")
         head = head_of(list(self.servers.items()), self.backlog, tick)

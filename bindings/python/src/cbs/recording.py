@@ -4,6 +4,7 @@ from __future__ import annotations
 
 import ctypes as c
 import os
+import zlib
 from datetime import timedelta
 from typing import BinaryIO, Optional, Sequence, Tuple, Union
 
@@ -13,11 +14,14 @@ from .servers import Server, nanoseconds
 # How much longer than asked for a tape is at most.
 _MARGIN = 31
 
+# How many bytes of steps a block has at most.
+_MOST = 0xFFFFFF
+
 
 def head_of(
     servers: Sequence[Tuple[str, Server]], backlog: int, tick: Optional[timedelta]
 ) -> bytes:
-    """Returns the text of a record of these servers, and the zero byte after it."""
+    """Returns the text of a record of these servers, and the byte that ends it."""
     lines = ["record = 1"]
     if tick is not None:
         length = nanoseconds(tick)
@@ -28,7 +32,7 @@ def head_of(
     for name, it in servers:
         rate = f"budget = {it.budget}, period = {it.period}"
         lines.append(f'  {{ name = "{name}", mode = "{it.mode}", {rate} }},')
-    return "\n".join([*lines, "]", "\0"]).encode("ascii")
+    return "\n".join([*lines, "]", "\3"]).encode("ascii")
 
 
 class Recorder:
@@ -40,6 +44,8 @@ class Recorder:
         self, house: int, path: Union[str, "os.PathLike[str]"], head: bytes, room: int, every: int
     ) -> None:
         """`house` is where the handle of the house lies. It made no step yet."""
+        if room > _MOST - _MARGIN:
+            raise ValueError(f"the steps between two writes take at most {_MOST - _MARGIN} bytes")
         self.error: Optional[OSError] = None
         self.is_whole = False
         self._house = house
@@ -48,7 +54,8 @@ class Recorder:
         self._length = c.c_size_t()
         self._file: Optional[BinaryIO] = open(path, "wb", buffering=0)
         try:
-            self._file.write(head)
+            self._sum = zlib.crc32(head)
+            self._file.write(head + self._block(b""))
             _lib.check(_lib.lib.cbs_tape_open(house, room))
         except BaseException:
             self._file.close()
@@ -72,9 +79,21 @@ class Recorder:
         if taken == 0 and length.value:
             self._put(c.string_at(buffer, length.value))
 
-    def _put(self, data: bytes) -> None:
-        """Writes bytes to the file, all of them, unless an error ended the recording."""
-        left = memoryview(data)
+    def _block(self, steps: bytes) -> bytes:
+        """Returns a block with these bytes of steps.
+
+        Their length has 3 bytes, the lowest first, and one more: the four come to 255 by exclusive or. A sum follows, of all that
+        the file has then but its sums."""
+        low, middle, high = len(steps).to_bytes(3, "little")
+        framed = bytes((low, middle, high, low ^ middle ^ high ^ 255)) + steps
+        self._sum = zlib.crc32(framed, self._sum)
+        return framed + self._sum.to_bytes(4, "little")
+
+    def _put(self, steps: bytes) -> None:
+        """Writes a block with these bytes of steps, all of it, unless an error ended the recording."""
+        if self._file is None:
+            return
+        left = memoryview(self._block(steps))
         try:
             while self._file is not None and left:
                 left = left[self._file.write(left) :]

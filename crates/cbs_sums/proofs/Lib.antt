@@ -1,0 +1,4 @@
+pub mod Read
+pub mod Written
+pub mod Changes
+pub mod Told
