@@ -160,7 +160,9 @@ fn append_elsewhere(page: &mut Page, name: &str, fault: FileFault) {
     page.push_number("error: entry ", number);
     page.push(" of the tape is none that `step` may have\n  --> ");
     page.push_printable(name);
-    page.push(": its server is not there, its number is out of range, its bytes are no entry, or the file");
+    page.push(
+        ": its server is not there, its number is out of range, its bytes are no entry, or the file",
+    );
     page.push(" was changed there\n");
 }
 

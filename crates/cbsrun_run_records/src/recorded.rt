@@ -42,12 +42,7 @@ impl RecordForm {
     }
 
     /// Returns the bytes of a record with this head and these steps, which a tape has.
-    fn spelled(
-        self,
-        head: String,
-        entries: &[Entry],
-        tape: &[u8],
-    ) -> Result<Vec<u8>, NotRecorded> {
+    fn spelled(self, head: String, entries: &[Entry], tape: &[u8]) -> Result<Vec<u8>, NotRecorded> {
         let mut text = head;
         match self {
             RecordForm::Text => {
